@@ -1,0 +1,3 @@
+pub mod Arithmetic
+pub mod Field
+pub mod Refusals
