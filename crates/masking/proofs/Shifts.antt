@@ -1,0 +1,61 @@
+-- The code words that carry a message are the shifts of the one whose mask is 0, so the fewest unmet cells are found among those. Assumes nothing.
+use mathlib.Core.Path.{_≡_, refl, ap, sym, _∙_, subst}
+use mathlib.Core.List.{List, map}
+use Prim.Native.Nat.{ℕ, suc, _-_, _<_, _≤_}
+use native.Mathlib.Omega.{arith}
+use Rattle.alphabet.specs.Arithmetic.{Arithmetic}
+use Rattle.code.specs.Words.{BlockCode, Message, Carries, mask-of}
+use Rattle.code.specs.Laws.{CodeLaws}
+use Rattle.masking.specs.Floors.{Fewest, unmet}
+use Rattle.masking.proofs.Counting.{least-of}
+use Rattle.masking.proofs.SymbolSums.{zero-sum}
+use Rattle.masking.proofs.Carriers.{some-symbol, mask-low, carrier, one-carrier, mask-shift, shift-carries}
+
+-- one symbol added to all cells
+abbrev pub shift : Arithmetic → ℕ → List ℕ → List ℕ
+shift m z word = map (λ x. m .sum x z) word
+
+-- of the shifts below a bound, z is the lowest of those with the fewest cells unmet, and that many are unmet
+pub record FewestBelow (m : Arithmetic) (floors word : List ℕ) (bound z count : ℕ) : Type 0 where
+  pub below : z < bound
+  pub counted : count ≡ unmet floors (shift m z word)
+  pub fewest : (y : ℕ) → y < bound → count ≤ unmet floors (shift m y word)
+  pub lowest : (y : ℕ) → y < z → count < unmet floors (shift m y word)
+
+module _ (code : BlockCode) (laws : CodeLaws code) (base message : List ℕ) (symbols : Message code message) (carrying : Carries code base message) (plain : mask-of code base ≡ 0) where
+  -- a shift's mask is the symbol added
+  pub mask-of-shift : (z : ℕ) → z < code .arithmetic .size → mask-of code (shift (code .arithmetic) z base) ≡ z
+  mask-of-shift z low = mask-shift code laws base z (carrying .held) ∙ ap (λ (u : ℕ). code .arithmetic .sum u z) plain ∙ zero-sum (code .arithmetic) (laws .arithmetic) z low
+
+  every-carrier : (other : List ℕ) → Carries code other message → other ≡ shift (code .arithmetic) (mask-of code other) base
+  every-carrier other c =
+      let low : mask-of code other < code .arithmetic .size = mask-low code laws other (c .held) in
+      one-carrier code laws other (shift (code .arithmetic) (mask-of code other) base) message c (shift-carries code laws base message (mask-of code other) symbols carrying low) (sym (mask-of-shift (mask-of code other) low))
+
+  pub fewest-shift : (floors : List ℕ) (z count : ℕ) → FewestBelow (code .arithmetic) floors base (code .arithmetic .size) z count → Fewest code floors message z count (shift (code .arithmetic) z base)
+  fewest-shift floors z count few = record {
+    carrying = shift-carries code laws base message z symbols carrying (few .below);
+    masked = mask-of-shift z (few .below);
+    counted = sym (few .counted);
+    fewest = λ other c.
+        subst (λ (w : List ℕ). count ≤ unmet floors w) (sym (every-carrier other c)) (few .fewest (mask-of code other) (mask-low code laws other (c .held)));
+    lowest = λ other c less. subst (λ (w : List ℕ). count < unmet floors w) (sym (every-carrier other c)) (few .lowest (mask-of code other) less);
+  }
+
+module _ (code : BlockCode) (laws : CodeLaws code) where
+  pub some-fewest : (floors message : List ℕ) → Message code message → (mask : ℕ) × (count : ℕ) × (carrier : List ℕ) × Fewest code floors message mask count carrier
+  some-fewest floors message symbols =
+      let base = carrier code laws message 0 symbols (some-symbol code laws) in
+      let u : ℕ → ℕ = λ z. unmet floors (shift (code .arithmetic) z (base .0)) in
+      let all : suc (code .arithmetic .size - 1) ≡ code .arithmetic .size = omega (arith, some-symbol code laws) in
+      let l = least-of (code .arithmetic .size - 1) u in (
+        l .place,
+        u (l .place),
+        shift (code .arithmetic) (l .place) (base .0),
+        fewest-shift code laws (base .0) message symbols (base .1) (base .2) floors (l .place) (u (l .place)) (record {
+          below = omega (arith, l .below);
+          counted = refl;
+          fewest = λ y h. l .least y (omega arith);
+          lowest = l .lowest;
+        }),
+      )

@@ -1,0 +1,5 @@
+pub mod Floors
+pub mod Writing
+pub mod Reading
+pub mod MaskingCode
+pub mod Refusals
