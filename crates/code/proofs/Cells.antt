@@ -51,6 +51,16 @@ item-past [] i h = refl
 item-past (x ∷ xs) zero h = absurd (omega arith)
 item-past (x ∷ xs) (suc i) h = item-past xs i (omega arith)
 
+pub item-found : (xs : List ℕ) (i x : ℕ) → Some x ≡ item xs i → (i < length xs) × (x ≡ getD xs i 0)
+item-found [] i x e = absurd (let z : _≡_ {A = ℕ} 0 1 = cc in omega arith)
+item-found (y ∷ ys) zero x e = (omega arith, cc)
+item-found (y ∷ ys) (suc i) x e = let r = item-found ys i x e in (omega (arith, r .0), r .1)
+
+pub item-missing : (xs : List ℕ) (i : ℕ) → None ≡ item xs i → length xs ≤ i
+item-missing [] i e = omega arith
+item-missing (y ∷ ys) zero e = absurd (let z : _≡_ {A = ℕ} 0 1 = cc in omega arith)
+item-missing (y ∷ ys) (suc i) e = omega (arith, item-missing ys i e)
+
 pub length-at : (w is : List ℕ) → length (symbols-at w is) ≡ length is
 length-at w [] = refl
 length-at w (i ∷ is) = ap suc (length-at w is)

@@ -7,3 +7,4 @@ pub use bare_code::Bare;
 pub use bare_code::BareCode;
 pub use checks::check_word;
 pub use traits::Code;
+pub use traits::MOST_CELLS;

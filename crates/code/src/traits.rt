@@ -7,6 +7,11 @@ ghost use Rattle.code.specs.Calls.{item, Completed, Corrected};
 use alphabet::Alphabet;
 use alphabet::Refusal;
 
+/// A word has at least so many cells.
+pub const FEWEST_CELLS: usize = 2;
+/// A word has at most so many cells.
+pub const MOST_CELLS: usize = 256;
+
 /// A block code over an alphabet of its own.
 pub trait Code {
     type Symbols: Alphabet;

@@ -81,26 +81,33 @@ module _ (code : BlockCode) (laws : CodeLaws code) where
             ∙ ap (λ v. map (code .arithmetic .sum v) m) (sym (mask-shift w z (c .held)));
       }
 
-  -- each code word carries a message
-  pub message-of : (w : List ℕ) → code .holds w ≡ true → (m : List ℕ) × Message code m × Carries code w m
-  message-of w held =
-      let u : ℕ = mask-of code w in
-      let ul : u < code .arithmetic .size = mask-low w held in
+  -- the other information cells of a word, less its mask
+  abbrev pub message-in : List ℕ → List ℕ
+  message-in w = map (code .arithmetic .sum (code .arithmetic .negative (mask-of code w))) (symbols-at w (rest (code .information)))
+
+  -- are the message that a code word carries
+  pub message-in-symbols : (w : List ℕ) → code .holds w ≡ true → Message code (message-in w)
+  message-in-symbols w held =
+      let v : ℕ = code .arithmetic .negative (mask-of code w) in
+      let low : v < code .arithmetic .size = laws .arithmetic .negative-below (mask-of code w) (mask-low w held) in
       let xs : List ℕ = symbols-at w (rest (code .information)) in
-      let low : (i : ℕ) → i < length xs → getD xs i 0 < code .arithmetic .size = at-below (code .arithmetic .size) w (rest (code .information)) (word-low w held) in
-      let v : ℕ = code .arithmetic .negative u in
-      let vl : v < code .arithmetic .size = laws .arithmetic .negative-below u ul in
-      let whole : length (map (code .arithmetic .sum v) xs) ≡ length xs = length-map xs (code .arithmetic .sum v) in (
-        map (code .arithmetic .sum v) xs,
-        record {
-          whole = whole ∙ length-at w (rest (code .information));
-          symbols = λ i l. let k : i < length xs = omega arith in rw (getD-map (code .arithmetic .sum v) xs i 0 0 k) (laws .arithmetic .sum-below v (getD xs i 0) vl (low i k));
-        },
-        record {
-          held = held;
-          carried = sym (map-after (code .arithmetic .size) (code .arithmetic .sum u) (code .arithmetic .sum v) (λ x. x) (λ x l. redone (code .arithmetic) (laws .arithmetic) u x ul l) xs low ∙ map-plain xs);
-        },
-      )
+      let long : length (map (code .arithmetic .sum v) xs) ≡ length xs = length-map xs (code .arithmetic .sum v) in
+      record {
+        whole = long ∙ length-at w (rest (code .information));
+        symbols = λ i l.
+            let k : i < length xs = omega arith in
+            rw (getD-map (code .arithmetic .sum v) xs i 0 0 k) (laws .arithmetic .sum-below v (getD xs i 0) low (at-below (code .arithmetic .size) w (rest (code .information)) (word-low w held) i k));
+      }
+
+  pub message-in-carried : (w : List ℕ) → code .holds w ≡ true → Carries code w (message-in w)
+  message-in-carried w held =
+      let u : ℕ = mask-of code w in
+      let xs : List ℕ = symbols-at w (rest (code .information)) in
+      record {
+        held = held;
+        carried = sym (map-after (code .arithmetic .size) (code .arithmetic .sum u) (code .arithmetic .sum (code .arithmetic .negative u)) (λ x. x) (λ x l. redone (code .arithmetic) (laws .arithmetic) u x (mask-low w held) l) xs
+            (at-below (code .arithmetic .size) w (rest (code .information)) (word-low w held)) ∙ map-plain xs);
+      }
     where
       map-plain : (ys : List ℕ) → map (λ x. x) ys ≡ ys
       map-plain [] = refl

@@ -4,5 +4,6 @@ pub mod SymbolSums
 pub mod Carriers
 pub mod Nearness
 pub mod Shifts
+pub mod Information
 pub mod Readings
 pub mod Masks

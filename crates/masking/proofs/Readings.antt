@@ -7,6 +7,7 @@ use Prim.Native.Nat.{ℕ, _+_, _≤_}
 use native.Mathlib.Omega.{arith}
 use lib.ListN.{length}
 use Rattle.code.specs.Words.{BlockCode, Word, Message, Carries, differences}
+use Rattle.code.specs.Calls.{Corrects}
 use Rattle.code.specs.Laws.{CodeLaws}
 use Rattle.code.proofs.Differences.{differences-triangle, cases-word}
 use Rattle.masking.specs.Reading.{Reads}
@@ -44,3 +45,14 @@ module _ (code : BlockCode) (laws : CodeLaws code) where
       within = omega (arith, differences-triangle word levels carrier (whole ∙ sym (fit .whole)) (whole ∙ sym (laws .words carrier (carrying .held) .whole)));
     },
   )
+
+  -- the code word that a copy of the levels was corrected to, and what it carries
+  pub reads-corrected : (levels copy word message : List ℕ) (count : ℕ) → copy ≡ levels → Corrects code copy count word → Message code message → Carries code word message → Reads code levels count message
+  reads-corrected levels copy word message count same corrects symbols carrying = record {
+    fit = subst (Word code) same (corrects .fit);
+    carrier = word;
+    carrying = carrying;
+    symbols = symbols;
+    near = ap (λ x. differences x word) (sym same) ∙ corrects .near;
+    within = corrects .within;
+  }

@@ -1,7 +1,8 @@
 -- What the laws of an alphabet give: a symbol added can be taken off again. Assumes nothing.
-use mathlib.Core.Path.{_≡_, refl, ap, sym, _∙_}
+use mathlib.Core.Path.{_≡_, refl, ap, ap₂, sym, _∙_}
 use mathlib.Core.List.{List, [], _∷_, map}
-use Prim.Native.Nat.{ℕ, suc, _<_}
+use Prim.Native.Nat.{ℕ, suc, _%_, _<_}
+use native.Mathlib.Nat.{mod-eq-of-lt}
 use native.Mathlib.Omega.{arith}
 use lib.ListN.{length, getD}
 use Rattle.alphabet.specs.Arithmetic.{Arithmetic, Lawful}
@@ -28,6 +29,13 @@ module _ (m : Arithmetic) (laws : Lawful m) where
 
   pub moved : (a b c : ℕ) → a < m .size → b < m .size → c < m .size → m .sum (m .sum a b) c ≡ m .sum (m .sum a c) b
   moved a b c j k l = laws .sum-assoc a b c j k l ∙ ap (m .sum a) (laws .sum-comm b c k l) ∙ sym (laws .sum-assoc a c b j l k)
+
+-- what an alphabet answers for symbols, in a meaning that agrees with its own
+pub sum-is : (m n : Arithmetic) (a b r : ℕ) → m ≡ n → a < n .size → b < n .size → r ≡ m .sum (a % m .size) (b % m .size) → r ≡ n .sum a b
+sum-is m n a b r agrees ha hb is = is ∙ ap (λ k. k .sum (a % k .size) (b % k .size)) agrees ∙ ap₂ (n .sum) (mod-eq-of-lt ha) (mod-eq-of-lt hb)
+
+pub negative-is : (m n : Arithmetic) (a r : ℕ) → m ≡ n → a < n .size → r ≡ m .negative (a % m .size) → r ≡ n .negative a
+negative-is m n a r agrees ha is = is ∙ ap (λ k. k .negative (a % k .size)) agrees ∙ ap (n .negative) (mod-eq-of-lt ha)
 
 -- maps over lists of symbols
 pub map-once : (q : ℕ) (f : ℕ → ℕ) → ((x y : ℕ) → x < q → y < q → f x ≡ f y → x ≡ y) → (xs ys : List ℕ) → length xs ≡ length ys

@@ -3,3 +3,4 @@ pub mod Writing
 pub mod Reading
 pub mod MaskingCode
 pub mod Refusals
+pub mod Unread

@@ -1,4 +1,6 @@
 // Masking: a message written into the word of a worn page, and read back by its levels alone.
+mod reading;
 mod refusals;
 
+pub use reading::read;
 pub use refusals::Refusal;

@@ -6,14 +6,11 @@ ghost use Rattle.alphabet.specs.declared.refusals.Refusal.the-variants.{BareLen
 ghost use Rattle.code.specs.Bare.{bare};
 use super::super::checks::check_word;
 use super::super::traits::Code;
+use super::super::traits::FEWEST_CELLS;
+use super::super::traits::MOST_CELLS;
 use super::Bare;
 use alphabet::Alphabet;
 use alphabet::Refusal;
-
-/// A word has at least so many cells.
-const FEWEST_CELLS: usize = 2;
-/// A word has at most so many cells.
-const MOST_CELLS: usize = 256;
 
 impl<A: Drop> Bare<A> {
     /// The code of all words of so many cells.
