@@ -1,26 +1,19 @@
 -- The code words that carry a message are the shifts of the one whose mask is 0, so the fewest unmet cells are found among those. Assumes nothing.
 use mathlib.Core.Path.{_≡_, refl, ap, sym, _∙_, subst}
-use mathlib.Core.List.{List, map}
-use Prim.Native.Nat.{ℕ, suc, _-_, _<_, _≤_}
+use mathlib.Core.List.{List}
+use Prim.Native.Nat.{ℕ, suc, _+_, _-_, _%_, _<_, _≤_}
 use native.Mathlib.Omega.{arith}
+use lib.ListN.{length, getD, drop}
+use Rattle.std.proofs.shelf.Lists.{length-map, getD-map}
 use Rattle.alphabet.specs.Arithmetic.{Arithmetic}
 use Rattle.code.specs.Words.{BlockCode, Message, Carries, mask-of}
 use Rattle.code.specs.Laws.{CodeLaws}
 use Rattle.masking.specs.Floors.{Fewest, unmet}
+use Rattle.masking.specs.Shifts.{shift, FewestBelow}
 use Rattle.masking.proofs.Counting.{least-of}
-use Rattle.masking.proofs.SymbolSums.{zero-sum}
+use Rattle.masking.proofs.SymbolSums.{zero-sum, sum-is}
+use Rattle.masking.proofs.Unmet.{missed, unmet-more, unmet-end}
 use Rattle.masking.proofs.Carriers.{some-symbol, mask-low, carrier, one-carrier, mask-shift, shift-carries}
-
--- one symbol added to all cells
-abbrev pub shift : Arithmetic → ℕ → List ℕ → List ℕ
-shift m z word = map (λ x. m .sum x z) word
-
--- of the shifts below a bound, z is the lowest of those with the fewest cells unmet, and that many are unmet
-pub record FewestBelow (m : Arithmetic) (floors word : List ℕ) (bound z count : ℕ) : Type 0 where
-  pub below : z < bound
-  pub counted : count ≡ unmet floors (shift m z word)
-  pub fewest : (y : ℕ) → y < bound → count ≤ unmet floors (shift m y word)
-  pub lowest : (y : ℕ) → y < z → count < unmet floors (shift m y word)
 
 module _ (code : BlockCode) (laws : CodeLaws code) (base message : List ℕ) (symbols : Message code message) (carrying : Carries code base message) (plain : mask-of code base ≡ 0) where
   -- a shift's mask is the symbol added
@@ -59,3 +52,17 @@ module _ (code : BlockCode) (laws : CodeLaws code) where
           lowest = l .lowest;
         }),
       )
+
+-- a cell of a shifted word is what the alphabet answers for it
+pub shifted-cell : (m : Arithmetic) (word : List ℕ) (mask i r : ℕ) → i < length word → getD word i 0 < m .size → mask < m .size → r ≡ m .sum (getD word i 0 % m .size) (mask % m .size) → getD (shift m mask word) i 0 ≡ r
+shifted-cell m word mask i r inside low small is = getD-map (λ x. m .sum x mask) word i 0 0 inside ∙ sym (sum-is m m (getD word i 0) mask r refl low small is)
+
+-- one more cell counted, which is below its floor or is not
+pub counted-more : (m : Arithmetic) (floors word : List ℕ) (mask i r : ℕ) → length word ≡ length floors → i < length word → getD word i 0 < m .size → mask < m .size → r ≡ m .sum (getD word i 0 % m .size) (mask % m .size)
+    → unmet (drop i floors) (drop i (shift m mask word)) ≡ missed r (getD floors i 0) + unmet (drop (i + 1) floors) (drop (i + 1) (shift m mask word))
+counted-more m floors word mask i r long inside low small is =
+    unmet-more floors (shift m mask word) i (omega arith) (omega (arith, length-map word (λ x. m .sum x mask)))
+    ∙ ap (λ (x : ℕ). missed x (getD floors i 0) + unmet (drop (i + 1) floors) (drop (i + 1) (shift m mask word))) (shifted-cell m word mask i r inside low small is)
+
+pub counted-all : (m : Arithmetic) (floors word : List ℕ) (mask i : ℕ) → length word ≤ i → unmet (drop i floors) (drop i (shift m mask word)) ≡ 0
+counted-all m floors word mask i h = unmet-end floors (shift m mask word) i (omega (arith, length-map word (λ x. m .sum x mask)))

@@ -4,3 +4,4 @@ pub mod Reading
 pub mod MaskingCode
 pub mod Refusals
 pub mod Unread
+pub mod Shifts

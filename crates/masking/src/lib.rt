@@ -1,6 +1,7 @@
 // Masking: a message written into the word of a worn page, and read back by its levels alone.
 mod reading;
 mod refusals;
+mod writing;
 
 pub use reading::read;
 pub use refusals::Refusal;
