@@ -5,5 +5,7 @@ pub mod Carriers
 pub mod Nearness
 pub mod Shifts
 pub mod Information
+pub mod Placing
 pub mod Readings
+pub mod Choosing
 pub mod Masks

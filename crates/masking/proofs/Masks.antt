@@ -13,13 +13,13 @@ use Rattle.code.specs.Laws.{CodeLaws}
 use Rattle.masking.specs.declared.refusals.Refusal.{Refusal}
 use Rattle.masking.specs.declared.refusals.Refusal.the-variants.{Coding, Allowance, Floor, MessageLength, MessageSymbol, NoMask}
 use Rattle.masking.specs.Floors.{Allowed, AtLeast, FewLost, raised}
-use Rattle.masking.specs.Reading.{Reads, ReadAs, ReadsOneWay, Unreadable}
+use Rattle.masking.specs.Reading.{Reads}
 use Rattle.masking.specs.Writing.{Writes, Page, Unwritable, WrittenAs, RefusedExactly, GrantedWhileFewLost, Nearest, ForcedLeast}
 use Rattle.masking.specs.MaskingCode.{WritingMasks}
 use Rattle.masking.proofs.Unmet.{differences-raised}
 use Rattle.masking.proofs.Nearness.{fewest-at-least, raised-allowed, one-fewest, near-carrier}
 use Rattle.masking.proofs.Shifts.{some-fewest}
-use Rattle.masking.proofs.Readings.{one-near, one-reading, reads-back}
+use Rattle.masking.proofs.Readings.{one-reading, reads-back}
 
 module _ (code : BlockCode) (laws : CodeLaws code) where
   -- the word written is that far from the code word that it was raised from
@@ -56,8 +56,8 @@ module _ (code : BlockCode) (laws : CodeLaws code) where
   only-for-want-of-a-mask floors allowance message room (Coding word.TooFar) P page symbols u k = absurd u
   only-for-want-of-a-mask floors allowance message room (Floor v) P page symbols u k =
       absurd (omega (arith, u .1 .first .bad, page .levels .symbols (u .1 .cell) (u .1 .first .within)))
-  only-for-want-of-a-mask floors allowance message room (MessageLength n) P page symbols u k = absurd (u .2 (symbols .whole))
-  only-for-want-of-a-mask floors allowance message room (MessageSymbol i) P page symbols u k = absurd (omega (arith, u .2 .bad, symbols .symbols i (u .2 .within)))
+  only-for-want-of-a-mask floors allowance message room (MessageLength n) P page symbols u k = absurd (u .1 .1 (symbols .whole))
+  only-for-want-of-a-mask floors allowance message room (MessageSymbol i) P page symbols u k = absurd (omega (arith, u .1 .1 .bad, symbols .symbols i (u .1 .1 .within)))
   only-for-want-of-a-mask floors allowance message room (NoMask fewest) P page symbols u k = k fewest u
 
   pub refused-exactly : (floors : List ℕ) (allowance : ℕ) (message before : List ℕ) (r : Result (ℕ × ℕ) Refusal) (after : List ℕ) → WrittenAs code floors allowance message before r after → RefusedExactly code floors allowance message before r
@@ -90,21 +90,3 @@ module _ (code : BlockCode) (laws : CodeLaws code) where
         (omega (arith, written-distance floors allowance message (e .0) (e .1) word (e .2))) errors (omega (arith, e .2 .within));
     decodes-once = λ levels message other a b. one-reading code laws levels (a .0) (b .0) message other (a .1) (b .1) .1;
   }
-
-  -- levels that read as a message are refused only if the buffer has another length
-  refused-for-room : (levels : List ℕ) (room count : ℕ) (message : List ℕ) (e : Refusal) → Reads code levels count message → Unreadable code levels room e → room ≡ length message → ⊥
-  refused-for-room levels room count message (Coding (word.WordLength n)) reads u long = u .1 (reads .fit .whole)
-  refused-for-room levels room count message (Coding (word.NotASymbol i)) reads u long = omega (arith, u .1 .bad, reads .fit .symbols i (u .1 .within))
-  refused-for-room levels room count message (MessageLength n) reads u long = u .2 (long ∙ reads .symbols .whole)
-  refused-for-room levels room count message (Coding word.TooFar) reads u long = omega (arith, u .2 (reads .carrier) (reads .carrying .held), reads .near, reads .within)
-  refused-for-room levels room count message (Coding (word.NotOffered choice)) reads u long = u
-  refused-for-room levels room count message (Coding (word.BareLength n)) reads u long = u
-  refused-for-room levels room count message (Allowance f) reads u long = u
-  refused-for-room levels room count message (Floor v) reads u long = u
-  refused-for-room levels room count message (MessageSymbol i) reads u long = u
-  refused-for-room levels room count message (NoMask n) reads u long = u
-
-  -- what is read is all that there is to read
-  pub reads-one-way : (levels before : List ℕ) (r : Result ℕ Refusal) (after : List ℕ) → ReadAs code levels before r after → ReadsOneWay code levels r after
-  reads-one-way levels before (Ok corrected) after h = λ count message reads. one-reading code laws levels corrected count after message h reads
-  reads-one-way levels before (Err refusal) after h = λ count message reads long. refused-for-room levels (length before) count message refusal reads (h .0) (sym (ap length (h .1)) ∙ long)

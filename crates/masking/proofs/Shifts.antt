@@ -1,18 +1,18 @@
 -- The code words that carry a message are the shifts of the one whose mask is 0, so the fewest unmet cells are found among those. Assumes nothing.
 use mathlib.Core.Path.{_≡_, refl, ap, sym, _∙_, subst}
 use mathlib.Core.List.{List}
-use Prim.Native.Nat.{ℕ, suc, _+_, _-_, _%_, _<_, _≤_}
+use Prim.Native.Nat.{ℕ, suc, _+_, _-_, _%_, _<_, _≤_, max}
 use native.Mathlib.Omega.{arith}
 use lib.ListN.{length, getD, drop}
-use Rattle.std.proofs.shelf.Lists.{length-map, getD-map}
+use Rattle.std.proofs.shelf.Lists.{length-map, getD-map, ext-getD}
 use Rattle.alphabet.specs.Arithmetic.{Arithmetic}
 use Rattle.code.specs.Words.{BlockCode, Message, Carries, mask-of}
 use Rattle.code.specs.Laws.{CodeLaws}
-use Rattle.masking.specs.Floors.{Fewest, unmet}
+use Rattle.masking.specs.Floors.{Fewest, unmet, raised}
 use Rattle.masking.specs.Shifts.{shift, FewestBelow}
 use Rattle.masking.proofs.Counting.{least-of}
 use Rattle.masking.proofs.SymbolSums.{zero-sum, sum-is}
-use Rattle.masking.proofs.Unmet.{missed, unmet-more, unmet-end}
+use Rattle.masking.proofs.Unmet.{missed, unmet-more, unmet-end, length-raised, getD-raised}
 use Rattle.masking.proofs.Carriers.{some-symbol, mask-low, carrier, one-carrier, mask-shift, shift-carries}
 
 module _ (code : BlockCode) (laws : CodeLaws code) (base message : List ℕ) (symbols : Message code message) (carrying : Carries code base message) (plain : mask-of code base ≡ 0) where
@@ -66,3 +66,11 @@ counted-more m floors word mask i r long inside low small is =
 
 pub counted-all : (m : Arithmetic) (floors word : List ℕ) (mask i : ℕ) → length word ≤ i → unmet (drop i floors) (drop i (shift m mask word)) ≡ 0
 counted-all m floors word mask i h = unmet-end floors (shift m mask word) i (omega (arith, length-map word (λ x. m .sum x mask)))
+
+-- what the cells of a raised word hold, once they are all done
+pub raised-all : (m : Arithmetic) (floors base word : List ℕ) (mask : ℕ) → length base ≡ length floors → length word ≡ length floors
+    → ((k : ℕ) → k < length word → getD word k 0 ≡ max (getD floors k 0) (getD (shift m mask base) k 0)) → word ≡ raised floors (shift m mask base)
+raised-all m floors base word mask long room each =
+    let whole : length (shift m mask base) ≡ length base = length-map base (λ x. m .sum x mask) in
+    let same : length word ≡ length (raised floors (shift m mask base)) = omega (arith, length-raised floors (shift m mask base)) in
+    ext-getD 0 word (raised floors (shift m mask base)) same (λ k h. each k h ∙ sym (getD-raised floors (shift m mask base) k (omega arith)))

@@ -5,3 +5,4 @@ pub mod MaskingCode
 pub mod Refusals
 pub mod Unread
 pub mod Shifts
+pub mod Unwritten

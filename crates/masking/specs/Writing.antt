@@ -34,6 +34,15 @@ pub record HighFloor (code : BlockCode) (floors : List ℕ) (floor : ℕ) : Type
   pub first : FirstBad (code .arithmetic .size) floors cell
   pub is : floor ≡ getD floors cell 0
 
+-- why a message is none of the code's: its length, and if that is right its first number that is no symbol
+abbrev pub NoMessage : BlockCode → (message : List ℕ) → Refusal → Type 0
+NoMessage code message (MessageLength n) = (n ≡ length message) × (length message ≡ length (rest (code .information)) → ⊥)
+NoMessage code message (MessageSymbol i) = (length message ≡ length (rest (code .information))) × FirstBad (code .arithmetic .size) message i
+NoMessage code message (Allowance f) = ⊥
+NoMessage code message (Coding refusal) = ⊥
+NoMessage code message (Floor v) = ⊥
+NoMessage code message (NoMask n) = ⊥
+
 -- why nothing is written: the first of these that is wrong
 abbrev pub Unwritable : BlockCode → (floors : List ℕ) (allowance : ℕ) (message : List ℕ) (room : ℕ) → Refusal → Type 0
 Unwritable code floors allowance message room (Allowance f) = (f ≡ allowance) × (code .radius < allowance)
@@ -45,9 +54,8 @@ Unwritable code floors allowance message room (Coding (word.NotOffered choice)) 
 Unwritable code floors allowance message room (Coding (word.BareLength n)) = ⊥
 Unwritable code floors allowance message room (Coding word.TooFar) = ⊥
 Unwritable code floors allowance message room (Floor v) = (allowance ≤ code .radius) × HighFloor code floors v
-Unwritable code floors allowance message room (MessageLength n) = Page code floors allowance room × (n ≡ length message) × (length message ≡ length (rest (code .information)) → ⊥)
-Unwritable code floors allowance message room (MessageSymbol i) =
-    Page code floors allowance room × (length message ≡ length (rest (code .information))) × FirstBad (code .arithmetic .size) message i
+Unwritable code floors allowance message room (MessageLength n) = Page code floors allowance room × NoMessage code message (MessageLength n)
+Unwritable code floors allowance message room (MessageSymbol i) = Page code floors allowance room × NoMessage code message (MessageSymbol i)
 Unwritable code floors allowance message room (NoMask n) =
     Page code floors allowance room × Message code message × ((mask : ℕ) × (carrier : List ℕ) × Fewest code floors message mask n carrier) × (allowance < n)
 

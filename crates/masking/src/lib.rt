@@ -5,3 +5,4 @@ mod writing;
 
 pub use reading::read;
 pub use refusals::Refusal;
+pub use writing::write;
