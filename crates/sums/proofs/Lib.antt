@@ -1,0 +1,5 @@
+pub mod Ring
+pub mod FiniteSum
+pub mod Reindex
+pub mod AllSymbols
+pub mod Symbols
