@@ -3,3 +3,5 @@ pub mod FiniteSum
 pub mod Reindex
 pub mod AllSymbols
 pub mod Symbols
+pub mod Weighed
+pub mod Lists
