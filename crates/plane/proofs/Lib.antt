@@ -1,0 +1,11 @@
+mod Weights
+mod CodeWords
+mod Apart
+mod Shifted
+mod Information
+mod Spread
+mod Solved
+mod Filling
+mod Near
+mod Holds
+mod PlaneLaws
