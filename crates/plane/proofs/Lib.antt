@@ -9,3 +9,7 @@ mod Filling
 mod Near
 mod Holds
 mod PlaneLaws
+mod ByLines
+mod Loops
+mod Correcting
+mod Completing

@@ -1,2 +1,3 @@
-// The Plane code: its words are q by q symbols, q the size of a field, and it corrects one cell.
-ghost use mathlib.Core.Path.{_≡_};
+// The Plane code: a word is q rows of q symbols, q the size of a field, and one wrong cell is corrected.
+mod repairs;
+mod three_sums;

@@ -68,16 +68,32 @@ module _ (m : Arithmetic) (l : Lawful m) where
   sum-of-total (suc n) h s same =
       ap (λ x. m .sum x (h n)) (sum-of-total n h s (λ i less. same i (omega arith))) ∙ ap (m .sum (total (ring-of m l) n s .0)) (same n (omega arith))
 
+  pub sum-of-same : (n : ℕ) (h k : ℕ → ℕ) → ((i : ℕ) → i < n → h i ≡ k i) → sum-of m n h ≡ sum-of m n k
+  sum-of-same zero h k same = refl
+  sum-of-same (suc n) h k same = ap (λ x. m .sum x (h n)) (sum-of-same n h k (λ i less. same i (omega arith))) ∙ ap (m .sum (sum-of m n k)) (same n (omega arith))
+
   pub sum-of-below : (n : ℕ) (h : ℕ → ℕ) → ((i : ℕ) → i < n → h i < m .size) → sum-of m n h < m .size
   sum-of-below zero h below = omega (arith, l .two)
   sum-of-below (suc n) h below = l .sum-below (sum-of m n h) (h n) (sum-of-below n h (λ i less. below i (omega arith))) (below n (omega arith))
 
+  -- what a call of an alphabet's product, sum or negative answers at symbols
+  pub product-is : (a b x y r : ℕ) → a < m .size → b < m .size → x ≡ a → y ≡ b → r ≡ m .product (x % m .size) (y % m .size) → r ≡ m .product a b
+  product-is a b x y r ha hb x-is y-is is =
+      is ∙ ap (λ (k : ℕ). m .product (k % m .size) (y % m .size)) x-is ∙ ap (λ (k : ℕ). m .product k (y % m .size)) (mod-eq-of-lt ha)
+      ∙ ap (λ (k : ℕ). m .product a (k % m .size)) y-is ∙ ap (m .product a) (mod-eq-of-lt hb)
+
+  pub sum-is : (a b x y r : ℕ) → a < m .size → b < m .size → x ≡ a → y ≡ b → r ≡ m .sum (x % m .size) (y % m .size) → r ≡ m .sum a b
+  sum-is a b x y r ha hb x-is y-is is =
+      is ∙ ap (λ (k : ℕ). m .sum (k % m .size) (y % m .size)) x-is ∙ ap (λ (k : ℕ). m .sum k (y % m .size)) (mod-eq-of-lt ha)
+      ∙ ap (λ (k : ℕ). m .sum a (k % m .size)) y-is ∙ ap (m .sum a) (mod-eq-of-lt hb)
+
+  pub negative-is : (a x r : ℕ) → a < m .size → x ≡ a → r ≡ m .negative (x % m .size) → r ≡ m .negative a
+  negative-is a x r ha x-is is = is ∙ ap (λ (k : ℕ). m .negative (k % m .size)) x-is ∙ ap (m .negative) (mod-eq-of-lt ha)
+
   -- one more, as a call of an alphabet's sum adds it
   pub sum-of-more : (n : ℕ) (h : ℕ → ℕ) (all x r : ℕ) → ((i : ℕ) → i ≤ n → h i < m .size) → all ≡ sum-of m n h → x ≡ h n → r ≡ m .sum (all % m .size) (x % m .size) → r ≡ sum-of m (n + 1) h
   sum-of-more n h all x r below before here is =
-      is ∙ ap (λ (k : ℕ). m .sum (k % m .size) (x % m .size)) before ∙ ap (λ (k : ℕ). m .sum (sum-of m n h % m .size) (k % m .size)) here
-      ∙ ap (λ (k : ℕ). m .sum k (h n % m .size)) (mod-eq-of-lt (sum-of-below n h (λ i less. below i (omega arith))))
-      ∙ ap (m .sum (sum-of m n h)) (mod-eq-of-lt (below n (omega arith)))
+      sum-is (sum-of m n h) (h n) all x r (sum-of-below n h (λ i less. below i (omega arith))) (below n (omega arith)) before here is
       ∙ ap (λ (k : ℕ). sum-of m k h) (sym (add-one n))
 
   pub equal-cancel : (z : ℕ) → z < m .size → sum-of m (m .size) (λ i. z) ≡ 0
