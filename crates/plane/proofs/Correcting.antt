@@ -48,6 +48,9 @@ module _ (m : Arithmetic) (l : Lawful m) (word : List ℕ) (fit : Word (plane-ov
   unfolding B
   b-is = are .columns ∙ columns-are m l word (fit .symbols)
 
+  pub levels-below : sums .levels < m .size
+  levels-below = subst (λ (k : ℕ). k < m .size) (sym s-is) (S .1)
+
   -- a symbol with an inverse is not 0
   not-zero : (t : ℕ) → Inverts m (sums .levels) t → S ≡ ring-of m l .o → ⊥
   not-zero t inverts none =

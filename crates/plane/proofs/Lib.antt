@@ -13,3 +13,4 @@ mod ByLines
 mod Loops
 mod Correcting
 mod Completing
+mod Fields

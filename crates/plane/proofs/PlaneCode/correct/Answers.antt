@@ -1,0 +1,48 @@
+use mathlib.Core.Path.{refl}
+use mathlib.Core.Logic.{inl, inr}
+use Rattle.plane.proofs.Fields.{checked-fit, levels-symbol, found-inverts, never-none, already, too-far}
+use Rattle.plane.proofs.PlaneCode.correct.Needs as need
+
+pub returns-then-sums-eq0-3 : need.returns-then-sums-eq0-3
+returns-then-sums-eq0-3 g c =
+    let field = c .args .self .now .field in
+    let m = g .F·Alphabet .meaning field in
+    let fit = checked-fit m (c .size-q .result) (c .args .word .now) (c .size-q .ensures) (c .in-Continue-check-word .ensures tt) in
+    already (g .F·Field .meaning field) (g .F·Field·met .lawful field) m (g .F·Field·met .agrees field) (c .args .word .now) fit
+    (c .sums-of-sums .result) (c .sums-of-sums .ensures) (c .if-sums-eq0 .taken) (c .if-sums-eq0-2 .taken) (c .if-sums-eq0-3 .taken)
+
+pub returns-else-sums-eq0-2 : need.returns-else-sums-eq0-2
+returns-else-sums-eq0-2 g c =
+    let field = c .args .self .now .field in
+    let m = g .F·Alphabet .meaning field in
+    let fit = checked-fit m (c .size-q .result) (c .args .word .now) (c .size-q .ensures) (c .in-Continue-check-word .ensures tt) in (
+      too-far (g .F·Field .meaning field) (g .F·Field·met .lawful field) m (g .F·Field·met .agrees field) (c .args .word .now) fit
+          (c .sums-of-sums .result) (c .sums-of-sums .ensures) (c .if-sums-eq0 .taken) (λ p q. elim (c .else-sums-eq0-2 .either) [ inl w ↦ w .1 q | inr n ↦ n p ]),
+      refl,
+    )
+
+pub mend-requires : need.mend-requires
+mend-requires g c κs =
+    let field = c .args .self .now .field in
+    let f = g .F·Field .meaning field in
+    let l = g .F·Field·met .lawful field in
+    let m = g .F·Alphabet .meaning field in
+    let agrees = g .F·Field·met .agrees field in
+    let fit = checked-fit m (c .size-q .result) (c .args .word .now) (c .size-q .ensures) (c .in-Continue-check-word .ensures tt) in
+    record {
+      fit = fit;
+      summed = c .sums-of-sums .ensures;
+      inverts = found-inverts f l m agrees (c .sums-of-sums .result .levels) (c .in-Some .inverse)
+          (levels-symbol f l m agrees (c .args .word .now) fit (c .sums-of-sums .result) (c .sums-of-sums .ensures)) (c .if-sums-eq0 .left) (c .in-Some .ensures tt .value);
+    }
+
+pub unreachable-requires : need.unreachable-requires
+unreachable-requires g c κs =
+    let field = c .args .self .now .field in
+    let f = g .F·Field .meaning field in
+    let l = g .F·Field·met .lawful field in
+    let m = g .F·Alphabet .meaning field in
+    let agrees = g .F·Field·met .agrees field in
+    let fit = checked-fit m (c .size-q .result) (c .args .word .now) (c .size-q .ensures) (c .in-Continue-check-word .ensures tt) in
+    never-none f l m agrees (c .sums-of-sums .result .levels)
+    (levels-symbol f l m agrees (c .args .word .now) fit (c .sums-of-sums .result) (c .sums-of-sums .ensures)) (c .if-sums-eq0 .left) (c .in-None .ensures tt .value)
