@@ -3,19 +3,23 @@ use mathlib.Core.Path.{_≡_, sym, ap, _∙_, subst}
 use mathlib.Core.List.{List}
 use mathlib.Core.Logic.{inl, inr}
 use Prim.Native.Nat.{ℕ, _+_, _-_, _*_, _%_, _<_, _≤_}
-use native.Mathlib.Nat.{eq-zero-or-pos, mod-eq-of-lt}
+use native.Mathlib.Nat.{eq-zero-or-pos, mod-eq-of-lt, mul-le-mul, lt-of-le-of-lt}
 use native.Mathlib.Omega.{arith}
+use lib.Dec.{lit<}
 use lib.ListN.{length}
+use mir.Val.{Fits}
+use mir.Syntax.{w64}
 use Rattle.std.specs.declared.option.Option.{Option}
 use Rattle.std.specs.declared.option.Option.the-variants.{Some, None}
 use Rattle.alphabet.specs.Arithmetic.{Arithmetic, Lawful}
 use Rattle.alphabet.specs.Field.{FieldArithmetic, FieldLaws}
 use Rattle.code.specs.Words.{Filled, Word}
 use Rattle.code.specs.Calls.{item, Corrects, AllFar}
+use Rattle.code.proofs.Cells.{item-past}
 use Rattle.plane.specs.Plane.{plane-over, plane}
 use Rattle.plane.specs.Lines.{SumsOf, Inverts}
 use Rattle.plane.specs.declared.three_sums.Sums.{Sums}
-use Rattle.plane.proofs.Information.{two-rows, length-information, item-low, item-high, item-none}
+use Rattle.plane.proofs.Information.{two-rows, length-information, item-low, item-high}
 use Rattle.plane.proofs.Correcting.{levels-below, already-corrects, all-far}
 
 some-not-none : (x : ℕ) (o : Option ℕ) → o ≡ Some x → o ≡ None → ⊥
@@ -24,9 +28,22 @@ some-not-none x o p q = let z : _≡_ {A = ℕ} 0 1 = cc in omega arith
 some-same : (x y : ℕ) (o : Option ℕ) → o ≡ Some x → o ≡ Some y → x ≡ y
 some-same x y o p q = cc
 
--- a word that passes the tests at the size
-pub checked-fit : (m : Arithmetic) (q : ℕ) (word : List ℕ) → q ≡ m .size → Filled (q * q) q word → Word (plane-over m) word
-checked-fit m q word same fit = subst (λ (k : ℕ). Filled (k * k) k word) same fit
+module _ (f : FieldArithmetic) (l : FieldLaws f) where
+  -- there are more cells than check cells
+  pub more-than-checks : (n : ℕ) → n ≡ plane f .cells → 3 ≤ n
+  more-than-checks n is = omega (arith, l .three, two-rows (f .arithmetic .size) (l .lawful .two))
+
+  pub information-count : (n : ℕ) → n ≡ plane f .cells → n - 3 ≡ length (plane f .information)
+  information-count n is = omega (arith, length-information (f .arithmetic .size) (l .lawful .two))
+
+  pub item-absent : (d i : ℕ) → d ≡ length (plane f .information) → d ≤ i → None ≡ item (plane f .information) i
+  item-absent d i is past = sym (item-past (plane f .information) i (omega arith))
+
+  pub later-fits : (d i : ℕ) → d ≡ length (plane f .information) → i < d → Fits w64 (i + 3)
+  later-fits d i is h =
+      let most : f .arithmetic .size * f .arithmetic .size ≤ 256 = mul-le-mul (l .lawful .sixteen) (l .lawful .sixteen) in
+      let below : i + 3 ≤ 256 = omega (arith, length-information (f .arithmetic .size) (l .lawful .two)) in
+      record { fits = lt-of-le-of-lt below (lit< tt) }
 
 module _ (f : FieldArithmetic) (l : FieldLaws f) (m : Arithmetic) (agrees : f .arithmetic ≡ m) where
   lawful : Lawful m
@@ -35,26 +52,18 @@ module _ (f : FieldArithmetic) (l : FieldLaws f) (m : Arithmetic) (agrees : f .a
   same-size : (q : ℕ) → q ≡ m .size → q ≡ f .arithmetic .size
   same-size q same = same ∙ sym (ap (λ k. k .size) agrees)
 
-  pub more-than-checks : (q : ℕ) → q ≡ m .size → 3 ≤ q * q
-  more-than-checks q same = let two : 2 ≤ q = omega (arith, lawful .two) in omega (arith, two-rows q two)
+  -- a word that passes the tests
+  pub checked-fit : (n q : ℕ) (word : List ℕ) → n ≡ plane f .cells → q ≡ m .size → Filled n q word → Word (plane-over m) word
+  checked-fit n q word long same fit =
+      let cells : n ≡ m .size * m .size = long ∙ ap (λ k. k .size * k .size) agrees in
+      subst (λ (k : ℕ). Filled (m .size * m .size) k word) same (subst (λ (k : ℕ). Filled k q word) cells fit)
 
-  pub information-count : (q : ℕ) → q ≡ m .size → q * q - 3 ≡ length (plane f .information)
-  information-count q same =
-      ap (λ (k : ℕ). k * k - 3) (same-size q same) ∙ omega (arith, length-information (f .arithmetic .size) (l .lawful .two))
+  pub item-later : (q d i : ℕ) → q ≡ m .size → d ≡ length (plane f .information) → q - 2 ≤ i → i < d → Some (i + 3) ≡ item (plane f .information) i
+  item-later q d i same is past h =
+      sym (item-high (f .arithmetic .size) (l .lawful .two) i (omega (arith, same-size q same)) (omega (arith, length-information (f .arithmetic .size) (l .lawful .two))))
 
   pub item-first : (q i : ℕ) → q ≡ m .size → i < q - 2 → Some (i + 2) ≡ item (plane f .information) i
   item-first q i same h = sym (item-low (f .arithmetic .size) (l .lawful .two) i (omega (arith, same-size q same)))
-
-  pub item-later : (q i : ℕ) → q ≡ m .size → q - 2 ≤ i → i < q * q - 3 → Some (i + 3) ≡ item (plane f .information) i
-  item-later q i same past h =
-      let e : q ≡ f .arithmetic .size = same-size q same in
-      let last : i + 3 < f .arithmetic .size * f .arithmetic .size = subst (λ (k : ℕ). i + 3 < k * k) e (omega arith) in
-      sym (item-high (f .arithmetic .size) (l .lawful .two) i (omega arith) last)
-
-  pub item-absent : (q i : ℕ) → q ≡ m .size → q * q - 3 ≤ i → None ≡ item (plane f .information) i
-  item-absent q i same past =
-      let over : f .arithmetic .size * f .arithmetic .size ≤ i + 3 = subst (λ (k : ℕ). k * k ≤ i + 3) (same-size q same) (omega arith) in
-      sym (item-none (f .arithmetic .size) (l .lawful .two) i over)
 
   there : (s : ℕ) → s < m .size → (s ≡ 0 → ⊥) → (t : ℕ) × Inverts m s t × (f .inverse (s % f .arithmetic .size) ≡ Some t)
   there s below not =

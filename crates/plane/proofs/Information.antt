@@ -8,12 +8,12 @@ use native.Mathlib.Omega.{arith}
 use lib.ListN.{length, getD}
 use Rattle.std.proofs.shelf.Lists.{length-append, getD-append-left, getD-append-right, ext-getD}
 use Rattle.std.proofs.shelf.Tests.{cases-lt}
-use Rattle.std.specs.declared.option.Option.the-variants.{Some, None}
+use Rattle.std.specs.declared.option.Option.the-variants.{Some}
 use Rattle.code.specs.Words.{symbols-at}
 use Rattle.code.specs.Laws.{Ascending}
 use Rattle.code.specs.Calls.{item}
 use Rattle.code.specs.Bare.{from}
-use Rattle.code.proofs.Cells.{length-from, getD-from, length-at, getD-at, item-there, item-past}
+use Rattle.code.proofs.Cells.{length-from, getD-from, length-at, getD-at, item-there}
 use Rattle.plane.specs.Plane.{information-cells}
 
 module _ (q : ℕ) (two : 2 ≤ q) where
@@ -38,9 +38,6 @@ module _ (q : ℕ) (two : 2 ≤ q) where
 
   pub item-high : (k : ℕ) → q ≤ k + 2 → k + 3 < q * q → item (information-cells q) k ≡ Some (k + 3)
   item-high k h l = item-there (information-cells q) k (omega (arith, length-information)) ∙ ap (λ i. Some i) (information-high k h l)
-
-  pub item-none : (k : ℕ) → q * q ≤ k + 3 → item (information-cells q) k ≡ None
-  item-none k h = item-past (information-cells q) k (omega (arith, length-information))
 
   pub information-ascends : Ascending (information-cells q)
   information-ascends i j less h =

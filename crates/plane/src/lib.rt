@@ -55,13 +55,12 @@ pub impl<F: Field> Code for Plane<F> as PlaneCode {
     }
 
     fn dimension(&self) -> usize {
-        let q = self.field.size() as usize;
-        q * q - CHECK_CELLS
+        self.length() - CHECK_CELLS
     }
 
     fn information_cell(&self, index: usize) -> Option<usize> {
         let q = self.field.size() as usize;
-        if index >= q * q - CHECK_CELLS {
+        if index >= self.dimension() {
             None
         } else if index < q - FIRST_CHECKS {
             Some(index + FIRST_CHECKS)
@@ -71,15 +70,13 @@ pub impl<F: Field> Code for Plane<F> as PlaneCode {
     }
 
     fn complete(&self, word: &mut [u8]) -> Result<(), Refusal> {
-        let q = self.field.size();
-        check_word(q as usize * q as usize, q, word)?;
+        check_word(self.length(), self.field.size(), word)?;
         fill_checks(&self.field, word);
         Ok(())
     }
 
     fn correct(&self, word: &mut [u8]) -> Result<usize, Refusal> {
-        let q = self.field.size();
-        check_word(q as usize * q as usize, q, word)?;
+        check_word(self.length(), self.field.size(), word)?;
         let sums = sums_of(&self.field, word);
         if sums.levels == 0 {
             return if sums.rows == 0 && sums.columns == 0 {

@@ -6,19 +6,25 @@ use Rattle.plane.proofs.PlaneCode.correct.Needs as need
 pub returns-then-sums-eq0-3 : need.returns-then-sums-eq0-3
 returns-then-sums-eq0-3 g c =
     let field = c .args .self .now .field in
+    let f = g .F·Field .meaning field in
+    let l = g .F·Field·met .lawful field in
     let m = g .F·Alphabet .meaning field in
-    let fit = checked-fit m (c .size-q .result) (c .args .word .now) (c .size-q .ensures) (c .in-Continue-check-word .ensures tt) in
-    already (g .F·Field .meaning field) (g .F·Field·met .lawful field) m (g .F·Field·met .agrees field) (c .args .word .now) fit
+    let agrees = g .F·Field·met .agrees field in
+    let fit = checked-fit f l m agrees (c .length .result) (c .size .result) (c .args .word .now) (c .length .ensures) (c .size .ensures) (c .in-Continue-check-word .ensures tt) in
+    already f l m agrees (c .args .word .now) fit
     (c .sums-of-sums .result) (c .sums-of-sums .ensures) (c .if-sums-eq0 .taken) (c .if-sums-eq0-2 .taken) (c .if-sums-eq0-3 .taken)
 
 pub returns-else-sums-eq0-2 : need.returns-else-sums-eq0-2
 returns-else-sums-eq0-2 g c =
     let field = c .args .self .now .field in
+    let f = g .F·Field .meaning field in
+    let l = g .F·Field·met .lawful field in
     let m = g .F·Alphabet .meaning field in
-    let fit = checked-fit m (c .size-q .result) (c .args .word .now) (c .size-q .ensures) (c .in-Continue-check-word .ensures tt) in (
-      too-far (g .F·Field .meaning field) (g .F·Field·met .lawful field) m (g .F·Field·met .agrees field) (c .args .word .now) fit
+    let agrees = g .F·Field·met .agrees field in
+    let fit = checked-fit f l m agrees (c .length .result) (c .size .result) (c .args .word .now) (c .length .ensures) (c .size .ensures) (c .in-Continue-check-word .ensures tt) in (
+      too-far f l m agrees (c .args .word .now) fit
           (c .sums-of-sums .result) (c .sums-of-sums .ensures) (c .if-sums-eq0 .taken) (λ p q. elim (c .else-sums-eq0-2 .either) [ inl w ↦ w .1 q | inr n ↦ n p ]),
-      refl,
+      refl {a = c .args .word .now},
     )
 
 pub mend-requires : need.mend-requires
@@ -28,7 +34,7 @@ mend-requires g c κs =
     let l = g .F·Field·met .lawful field in
     let m = g .F·Alphabet .meaning field in
     let agrees = g .F·Field·met .agrees field in
-    let fit = checked-fit m (c .size-q .result) (c .args .word .now) (c .size-q .ensures) (c .in-Continue-check-word .ensures tt) in
+    let fit = checked-fit f l m agrees (c .length .result) (c .size .result) (c .args .word .now) (c .length .ensures) (c .size .ensures) (c .in-Continue-check-word .ensures tt) in
     record {
       fit = fit;
       summed = c .sums-of-sums .ensures;
@@ -43,6 +49,6 @@ unreachable-requires g c κs =
     let l = g .F·Field·met .lawful field in
     let m = g .F·Alphabet .meaning field in
     let agrees = g .F·Field·met .agrees field in
-    let fit = checked-fit m (c .size-q .result) (c .args .word .now) (c .size-q .ensures) (c .in-Continue-check-word .ensures tt) in
+    let fit = checked-fit f l m agrees (c .length .result) (c .size .result) (c .args .word .now) (c .length .ensures) (c .size .ensures) (c .in-Continue-check-word .ensures tt) in
     never-none f l m agrees (c .sums-of-sums .result .levels)
     (levels-symbol f l m agrees (c .args .word .now) fit (c .sums-of-sums .result) (c .sums-of-sums .ensures)) (c .if-sums-eq0 .left) (c .in-None .ensures tt .value)

@@ -4,9 +4,9 @@ use Rattle.plane.proofs.PlaneCode.dimension.Needs as need
 pub sub-result : need.sub-result
 sub-result g c =
     let field = c .args .self .now .field in
-    more-than-checks (g .F·Field .meaning field) (g .F·Field·met .lawful field) (g .F·Alphabet .meaning field) (g .F·Field·met .agrees field) (c .size-q .result) (c .size-q .ensures)
+    more-than-checks (g .F·Field .meaning field) (g .F·Field·met .lawful field) (c .length .result) (c .length .ensures)
 
 pub returns : need.returns
 returns g c =
     let field = c .args .self .now .field in
-    information-count (g .F·Field .meaning field) (g .F·Field·met .lawful field) (g .F·Alphabet .meaning field) (g .F·Field·met .agrees field) (c .size-q .result) (c .size-q .ensures)
+    information-count (g .F·Field .meaning field) (g .F·Field·met .lawful field) (c .length .result) (c .length .ensures)
