@@ -79,11 +79,10 @@ pub impl<F: Field> Code for Plane<F> as PlaneCode {
         check_word(self.length(), self.field.size(), word)?;
         let sums = sums_of(&self.field, word);
         if sums.levels == 0 {
-            return if sums.rows == 0 && sums.columns == 0 {
-                Ok(0)
-            } else {
-                Err(Refusal::TooFar)
-            };
+            if sums.rows == 0 && sums.columns == 0 {
+                return Ok(0);
+            }
+            return Err(Refusal::TooFar);
         }
         match self.field.inverse(sums.levels) {
             Some(inverse) => {

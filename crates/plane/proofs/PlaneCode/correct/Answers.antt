@@ -14,8 +14,8 @@ returns-then-sums-eq0-3 g c =
     already f l m agrees (c .args .word .now) fit
     (c .sums-of-sums .result) (c .sums-of-sums .ensures) (c .if-sums-eq0 .taken) (c .if-sums-eq0-2 .taken) (c .if-sums-eq0-3 .taken)
 
-pub returns-else-sums-eq0-2 : need.returns-else-sums-eq0-2
-returns-else-sums-eq0-2 g c =
+pub returns-then-sums-eq0 : need.returns-then-sums-eq0
+returns-then-sums-eq0 g c =
     let field = c .args .self .now .field in
     let f = g .F·Field .meaning field in
     let l = g .F·Field·met .lawful field in
