@@ -1,0 +1,5 @@
+mod Every
+mod Remainders
+mod Times
+mod Search
+mod Fields

@@ -1,0 +1,5 @@
+use Rattle.alphabet.proofs.Times.{low-bits}
+use Rattle.alphabet.proofs.binary.BinaryField.symbol.Needs as need
+
+pub returns : need.returns
+returns c = low-bits (c .args .a) (c .args .self .now .q) (c .args .self .now .ok)
