@@ -1,5 +1,7 @@
 mod Every
+mod Sizes
 mod Remainders
+mod Bits
 mod Times
 mod Search
 mod Fields

@@ -1,4 +1,4 @@
--- The inverses of an arithmetic: what two symbols whose product is 1 are to each other. For whoever shows that an alphabet is a field. Assumes nothing.
+-- The inverse of a symbol: the first symbol whose product with it is 1. For whoever makes a field of an arithmetic. Assumes nothing.
 use mathlib.Core.Bool.{cond}
 use Prim.Native.Nat.{ℕ, zero, suc}
 use lib.Dec.{eqb}

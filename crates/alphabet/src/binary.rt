@@ -2,7 +2,7 @@
 ghost use mathlib.Core.Path.{_≡_};
 ghost use Prim.Native.Nat.{_%_};
 ghost use Rattle.alphabet.specs.Offers.{BinarySize, Offered};
-ghost use Rattle.alphabet.specs.Binary.{binary};
+ghost use Rattle.alphabet.specs.Binary.{binary, polynomial-product, times, Remainder};
 ghost use Rattle.alphabet.specs.Inverses.{with-inverses};
 use crate::inverses::find_inverse;
 use crate::polynomials::polynomial_product;
@@ -55,7 +55,11 @@ pub impl Alphabet for BinaryField as BinaryFieldAlphabet {
         self.symbol(a)
     }
 
-    fn product(&self, a: u8, b: u8) -> u8 {
+    /// The remainder of the product of the two polynomials.
+    fn product(&self, a: u8, b: u8) -> u8
+        ensures value { λ r. ⌜ r ≡ times (now (self .entry) .q) (a % now (self .entry) .q) (b % now (self .entry) .q) ⌝ }
+        ensures remainder { λ r. ⌜ Remainder (now (self .entry) .q) (polynomial-product (a % now (self .entry) .q) (b % now (self .entry) .q)) r ⌝ }
+    {
         reduced(self.q, polynomial_product(self.symbol(a), self.symbol(b)))
     }
 }

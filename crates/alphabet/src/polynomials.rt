@@ -7,7 +7,7 @@ ghost use Rattle.alphabet.specs.Binary.{term, polynomial-product, reduced-once
 /// What x^2 + x + 1, x^3 + x + 1 and x^4 + x + 1 have below their leading terms: x + 1.
 const LOWER_TERMS: u8 = 3;
 
-/// `a` times the term of `b` at the bit `power`.
+/// `a` times the term of `b` whose bit is `power`.
 fn term(a: u8, b: u8, power: u8) -> u8
     requires { ⌜ a < 16 ⌝ ∗ ⌜ 0 < power ⌝ ∗ ⌜ power ≤ 8 ⌝ }
     ensures { λ r. ⌜ r ≡ term a b power ⌝ }
@@ -15,7 +15,7 @@ fn term(a: u8, b: u8, power: u8) -> u8
     b / power % 2 * (power * a)
 }
 
-/// The product of two polynomials of degree 3 at most.
+/// The product of two polynomials, the second of degree 3 at most.
 pub fn polynomial_product(a: u8, b: u8) -> u8
     requires { ⌜ a < 16 ⌝ }
     ensures { λ r. ⌜ r ≡ polynomial-product a b ⌝ }
@@ -23,7 +23,7 @@ pub fn polynomial_product(a: u8, b: u8) -> u8
     term(a, b, 1) ^ term(a, b, 2) ^ term(a, b, 4) ^ term(a, b, 8)
 }
 
-/// Takes `p` from `n` if `n` reaches the bit `top`, which leads `p`.
+/// `n` less `p`, if `n` reaches the bit `top` of `p`'s leading term.
 fn reduced_once(top: u8, p: u8, n: u8) -> u8
     ensures { λ r. ⌜ r ≡ reduced-once top p n ⌝ }
 {

@@ -1,4 +1,4 @@
-use Rattle.alphabet.proofs.Times.{low-bits}
+use Rattle.alphabet.proofs.Bits.{low-bits}
 use Rattle.alphabet.proofs.binary.BinaryField.symbol.Needs as need
 
 pub returns : need.returns
