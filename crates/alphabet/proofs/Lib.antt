@@ -1,7 +1,7 @@
-mod Every
-mod Sizes
-mod Remainders
+pub mod Every
+pub mod Sizes
+pub mod Remainders
 mod Bits
-mod Times
+pub mod Times
 mod Search
-mod Fields
+pub mod Fields
