@@ -15,21 +15,9 @@ use Rattle.alphabet.specs.Residue.{modulo}
 pub remainder-below : {q : ℕ} (a : ℕ) → a < q → a ≡ a % q
 remainder-below a h = sym (mod-eq-of-lt h)
 
--- a sum of two symbols x and y that is below q is their sum
-pub sum-whole : (q x y : ℕ) {s t : ℕ} → x ≡ s → y ≡ t → x + y < q → x + y ≡ (s + t) % q
-sum-whole q x y {s} {t} ex ey h =
-    let e : x + y ≡ s + t = omega arith in
-    let low : s + t < q = omega arith in
-    e ∙ remainder-below (s + t) low
-
--- from any other sum of two symbols, q is taken away once
-pub sum-less-q : (q x y a b : ℕ) → 0 < q → x ≡ a % q → y ≡ b % q → q ≤ x + y → x + y - q ≡ (a % q + b % q) % q
-sum-less-q q x y a b pos ex ey h =
-    let n = a % q + b % q in
-    let e : x + y ≡ n = omega arith in
-    let high : q ≤ n = omega arith in
-    let low : n - q < q = omega (arith, mod-lt a pos, mod-lt b pos) in
-    ap (λ m. m - q) e ∙ remainder-below (n - q) low ∙ sym (mod-eq-sub-mod high)
+-- from a number below twice q, q is taken away once
+pub remainder-less-q : (q n : ℕ) → q ≤ n → n < 2 * q → n - q ≡ n % q
+remainder-less-q q n high low = let less : n - q < q = omega arith in remainder-below (n - q) less ∙ sym (mod-eq-sub-mod high)
 
 -- the negative of 0 is 0
 pub negative-zero : (q x : ℕ) {s : ℕ} → x ≡ s → x ≡ 0 → 0 ≡ (q - s) % q

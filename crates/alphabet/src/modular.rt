@@ -31,6 +31,18 @@ impl Residues {
         Ok(Residues { q: size as u8 })
     }
 
+    /// The remainder of a sum. What two symbols come to is below twice q, and then nothing is divided.
+    fn remainder(&self, total: u16) -> u8
+        ensures { λ r. ⌜ r ≡ total % now (self .entry) .q ⌝ }
+    {
+        let q = self.q as u16;
+        if total >= 2 * q {
+            return (total % q) as u8;
+        }
+        let symbol = if total < q { total } else { total - q };
+        symbol as u8
+    }
+
     /// The symbol that a number counts as. Most numbers are symbols already, and then nothing is divided.
     fn symbol(&self, a: u8) -> u8
         ensures { λ r. ⌜ r ≡ a % now (self .entry) .q ⌝ }
@@ -47,12 +59,7 @@ pub impl Alphabet for Residues as ResiduesAlphabet {
     }
 
     fn sum(&self, a: u8, b: u8) -> u8 {
-        let total = self.symbol(a) + self.symbol(b);
-        if total < self.q {
-            total
-        } else {
-            total - self.q
-        }
+        self.remainder(a as u16 + b as u16)
     }
 
     fn negative(&self, a: u8) -> u8 {
