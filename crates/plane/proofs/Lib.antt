@@ -8,9 +8,9 @@ mod Solved
 mod Filling
 mod Near
 mod Holds
-mod PlaneLaws
+pub mod PlaneLaws
 mod ByLines
 mod Loops
-mod Correcting
+pub mod Correcting
 mod Completing
 mod Fields
