@@ -4,7 +4,7 @@ use mathlib.Core.List.{List}
 use Prim.Native.Nat.{ℕ, _+_, _*_, _%_, _<_}
 use native.Mathlib.Nat.{mod-lt, mod-eq-of-lt}
 use native.Mathlib.Omega.{arith}
-use lib.ListN.{length, getD, set}
+use lib.ListN.{getD, set}
 use Rattle.alphabet.specs.Arithmetic.{Arithmetic, Lawful}
 use Rattle.code.specs.Words.{Word, differences}
 use Rattle.code.specs.Calls.{Corrects, AllFar}
@@ -17,14 +17,19 @@ use Rattle.plane.specs.Lines.{SumsOf, Inverts}
 use Rattle.plane.specs.declared.three_sums.Sums.{Sums}
 use Rattle.plane.proofs.Weights.{levels, rows, columns}
 use Rattle.plane.proofs.CodeWords.{CodeWord, sum-under}
+use Rattle.plane.proofs.Loops.{point-inside}
 use Rattle.plane.proofs.Near.{point-within, lowered-differs, mended, none-near}
 use Rattle.plane.proofs.Holds.{levels-are, rows-are, columns-are, word-from, holds-from, word-holds}
 
 module _ (m : Arithmetic) (l : Lawful m) where
-  pub product-inside : (x y r : ℕ) → r ≡ m .product (x % m .size) (y % m .size) → r < m .size
+  product-inside : (x y r : ℕ) → r ≡ m .product (x % m .size) (y % m .size) → r < m .size
   product-inside x y r is =
       let positive : 0 < m .size = omega (arith, l .two) in
       subst (λ (k : ℕ). k < m .size) (sym is) (l .product-below _ _ (mod-lt x positive) (mod-lt y positive))
+
+  -- two products are the row and the column of a cell
+  pub cell-inside : (x y t q a b n : ℕ) → n ≡ m .size * m .size → q ≡ m .size → a ≡ m .product (x % m .size) (t % m .size) → b ≡ m .product (y % m .size) (t % m .size) → q * a + b < n
+  cell-inside x y t q a b n whole same a-call b-call = point-inside (m .size) q a b n same (product-inside x t a a-call) (product-inside y t b b-call) whole
 
 module _ (m : Arithmetic) (l : Lawful m) (word : List ℕ) (fit : Word (plane-over m) word) (sums : Sums) (are : SumsOf m word sums) where
   S : SymbolOf m

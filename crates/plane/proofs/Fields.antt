@@ -52,12 +52,6 @@ module _ (f : FieldArithmetic) (l : FieldLaws f) (m : Arithmetic) (agrees : f .a
   same-size : (q : ℕ) → q ≡ m .size → q ≡ f .arithmetic .size
   same-size q same = same ∙ sym (ap (λ k. k .size) agrees)
 
-  -- a word that passes the tests
-  pub checked-fit : (n q : ℕ) (word : List ℕ) → n ≡ plane f .cells → q ≡ m .size → Filled n q word → Word (plane-over m) word
-  checked-fit n q word long same fit =
-      let cells : n ≡ m .size * m .size = long ∙ ap (λ k. k .size * k .size) agrees in
-      subst (λ (k : ℕ). Filled (m .size * m .size) k word) same (subst (λ (k : ℕ). Filled k q word) cells fit)
-
   pub item-later : (q d i : ℕ) → q ≡ m .size → d ≡ length (plane f .information) → q - 2 ≤ i → i < d → Some (i + 3) ≡ item (plane f .information) i
   item-later q d i same is past h =
       sym (item-high (f .arithmetic .size) (l .lawful .two) i (omega (arith, same-size q same)) (omega (arith, length-information (f .arithmetic .size) (l .lawful .two))))
@@ -65,6 +59,7 @@ module _ (f : FieldArithmetic) (l : FieldLaws f) (m : Arithmetic) (agrees : f .a
   pub item-first : (q i : ℕ) → q ≡ m .size → i < q - 2 → Some (i + 2) ≡ item (plane f .information) i
   item-first q i same h = sym (item-low (f .arithmetic .size) (l .lawful .two) i (omega (arith, same-size q same)))
 
+  -- the inverse of a symbol other than 0
   there : (s : ℕ) → s < m .size → (s ≡ 0 → ⊥) → (t : ℕ) × Inverts m s t × (f .inverse (s % f .arithmetic .size) ≡ Some t)
   there s below not =
       let h : s < f .arithmetic .size = omega (arith, ap (λ k. k .size) agrees) in
@@ -78,18 +73,23 @@ module _ (f : FieldArithmetic) (l : FieldLaws f) (m : Arithmetic) (agrees : f .a
         ap (f .inverse) (mod-eq-of-lt h) ∙ x .2,
       )
 
-  -- what the call of a field's inverse answers at a symbol that is not 0
-  pub found-inverts : (s t : ℕ) → s < m .size → (s ≡ 0 → ⊥) → Some t ≡ f .inverse (s % f .arithmetic .size) → Inverts m s t
-  found-inverts s t below not found =
-      let x = there s below not in
-      subst (Inverts m s) (some-same (x .0) t (f .inverse (s % f .arithmetic .size)) (x .2) (sym found)) (x .1)
+  -- a word that passed the tests, and its sums
+  module _ (n q : ℕ) (word : List ℕ) (long : n ≡ plane f .cells) (same : q ≡ m .size) (filled : Filled n q word) (sums : Sums) (are : SumsOf m word sums) where
+    pub fit : Word (plane-over m) word
+    fit =
+        let cells : n ≡ m .size * m .size = long ∙ ap (λ k. k .size * k .size) agrees in
+        subst (λ (k : ℕ). Filled (m .size * m .size) k word) same (subst (λ (k : ℕ). Filled k q word) cells filled)
 
-  pub never-none : (s : ℕ) → s < m .size → (s ≡ 0 → ⊥) → None ≡ f .inverse (s % f .arithmetic .size) → ⊥
-  never-none s below not none = let x = there s below not in some-not-none (x .0) (f .inverse (s % f .arithmetic .size)) (x .2) (sym none)
+    -- the field finds an inverse of the levels' sum if that is not 0
+    pub found-inverts : (t : ℕ) → (sums .levels ≡ 0 → ⊥) → Some t ≡ f .inverse (sums .levels % f .arithmetic .size) → Inverts m (sums .levels) t
+    found-inverts t not found =
+        let x = there (sums .levels) (levels-below m lawful word fit sums are) not in
+        subst (Inverts m (sums .levels)) (some-same (x .0) t (f .inverse (sums .levels % f .arithmetic .size)) (x .2) (sym found)) (x .1)
 
-  module _ (word : List ℕ) (fit : Word (plane-over m) word) (sums : Sums) (are : SumsOf m word sums) where
-    pub levels-symbol : sums .levels < m .size
-    levels-symbol = levels-below m lawful word fit sums are
+    pub never-none : (sums .levels ≡ 0 → ⊥) → None ≡ f .inverse (sums .levels % f .arithmetic .size) → ⊥
+    never-none not none =
+        let x = there (sums .levels) (levels-below m lawful word fit sums are) not in
+        some-not-none (x .0) (f .inverse (sums .levels % f .arithmetic .size)) (x .2) (sym none)
 
     pub already : sums .levels ≡ 0 → sums .rows ≡ 0 → sums .columns ≡ 0 → Corrects (plane f) word 0 word
     already s r c = subst (λ (k : Arithmetic). Corrects (plane-over k) word 0 word) (sym agrees) (already-corrects m lawful word fit sums are s r c)

@@ -1,20 +1,15 @@
-use Rattle.plane.proofs.Loops.{point-inside}
-use Rattle.plane.proofs.Correcting.{product-inside, mended-corrects}
+use Rattle.plane.proofs.Correcting.{cell-inside, mended-corrects}
 use Rattle.plane.proofs.repairs.mend.Needs as need
 
 pub index-word-cell : need.index-word-cell
 index-word-cell g c =
-    let m = g .A·Alphabet .meaning (c .args .alphabet .now) in
-    let l = g .A·Alphabet·met .lawful (c .args .alphabet .now) in
-    point-inside (m .size) (c .size .result) (c .product-row .result) (c .product-column .result) _ (c .size .ensures)
-    (product-inside m l _ _ _ (c .product-row .ensures)) (product-inside m l _ _ _ (c .product-column .ensures)) (c .pre .fit .whole)
+    cell-inside (g .A·Alphabet .meaning (c .args .alphabet .now)) (g .A·Alphabet·met .lawful (c .args .alphabet .now)) (c .args .sums .rows) (c .args .sums .columns) (c .args .inverse)
+    (c .size .result) (c .product-row .result) (c .product-column .result) _ (c .pre .fit .whole) (c .size .ensures) (c .product-row .ensures) (c .product-column .ensures)
 
 pub index-word-cell-2 : need.index-word-cell-2
 index-word-cell-2 g c =
-    let m = g .A·Alphabet .meaning (c .args .alphabet .now) in
-    let l = g .A·Alphabet·met .lawful (c .args .alphabet .now) in
-    point-inside (m .size) (c .size .result) (c .product-row .result) (c .product-column .result) _ (c .size .ensures)
-    (product-inside m l _ _ _ (c .product-row .ensures)) (product-inside m l _ _ _ (c .product-column .ensures)) (c .pre .fit .whole)
+    cell-inside (g .A·Alphabet .meaning (c .args .alphabet .now)) (g .A·Alphabet·met .lawful (c .args .alphabet .now)) (c .args .sums .rows) (c .args .sums .columns) (c .args .inverse)
+    (c .size .result) (c .product-row .result) (c .product-column .result) _ (c .pre .fit .whole) (c .size .ensures) (c .product-row .ensures) (c .product-column .ensures)
 
 pub returns : need.returns
 returns g c =
