@@ -3,12 +3,12 @@ use Rattle.plane.proofs.repairs.mend.Needs as need
 
 pub index-word-cell : need.index-word-cell
 index-word-cell g c =
-    cell-inside (g .A·Alphabet .meaning (c .args .alphabet .now)) (g .A·Alphabet·met .lawful (c .args .alphabet .now)) (c .args .sums .rows) (c .args .sums .columns) (c .args .inverse)
+    cell-inside (g .A·Alphabet .meaning (c .args .alphabet .now)) (g .A·Alphabet·met .lawful (c .args .alphabet .now)) _ _ _
     (c .size .result) (c .product-row .result) (c .product-column .result) _ (c .pre .fit .whole) (c .size .ensures) (c .product-row .ensures) (c .product-column .ensures)
 
 pub index-word-cell-2 : need.index-word-cell-2
 index-word-cell-2 g c =
-    cell-inside (g .A·Alphabet .meaning (c .args .alphabet .now)) (g .A·Alphabet·met .lawful (c .args .alphabet .now)) (c .args .sums .rows) (c .args .sums .columns) (c .args .inverse)
+    cell-inside (g .A·Alphabet .meaning (c .args .alphabet .now)) (g .A·Alphabet·met .lawful (c .args .alphabet .now)) _ _ _
     (c .size .result) (c .product-row .result) (c .product-column .result) _ (c .pre .fit .whole) (c .size .ensures) (c .product-row .ensures) (c .product-column .ensures)
 
 pub returns : need.returns
