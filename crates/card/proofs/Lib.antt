@@ -1,0 +1,5 @@
+mod Moved
+mod Shown
+mod Promised
+mod Spots
+mod Notes

@@ -1,0 +1,4 @@
+pub mod Refusals
+pub mod Cells
+pub mod Words
+pub mod History
