@@ -3,3 +3,6 @@ mod Shown
 mod Promised
 mod Spots
 mod Notes
+mod Saves
+mod Questions
+mod Blanks

@@ -93,3 +93,19 @@ pub record Unaltered (before after : List Page) : Type 0 where
 abbrev pub RefusedAltersNothing : {T : Type 0} → Result T Refusal → (before after : List Page) → Type 0
 RefusedAltersNothing (Ok granted) before after = Unit {0}
 RefusedAltersNothing (Err e) before after = Unaltered before after
+
+-- a page that a question names is readable in the ledger as it was read, or unreadable as it was refused
+abbrev pub FetchedInLedger : Made → List ledger.Page → (page : ℕ) → Result ℕ Refusal → List ℕ → Type 0
+FetchedInLedger made l page (Ok corrected) message = ledger.Readable made l page corrected message
+FetchedInLedger made l page (Err e) message = ledger.Unreadable made l page (refusal-answer e)
+
+-- whatever history led to the card, what is fetched of a page is the ledger's
+abbrev pub Fetches : {C : Type 0} (meaning : C → BlockCode) → Service C → (page : ℕ) → Result ℕ Refusal → (after : List ℕ) → Type 0
+Fetches meaning s page r after =
+    (made : Made) (bench : List (BenchCall × Answer)) (past : List (Call × Answer)) (l : List ledger.Page) → InService made bench past l → ServiceShows meaning s made l
+    → FetchedInLedger made l page r after
+
+-- a refused read leaves the buffer as it was
+abbrev pub Untouched : Result ℕ Refusal → (before after : List ℕ) → Type 0
+Untouched (Ok corrected) before after = Unit {0}
+Untouched (Err e) before after = after ≡ before

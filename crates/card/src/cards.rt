@@ -17,5 +17,9 @@ pub struct Service<C> {
     pages: Vec<Page>,
 }
 
+mod compares;
 mod floors;
+mod makes;
 mod notes;
+mod reads;
+mod saves;

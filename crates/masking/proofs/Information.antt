@@ -3,7 +3,7 @@ use mathlib.Core.Path.{_≡_, refl, ap, sym, _∙_, subst}
 use mathlib.Core.List.{List, [], _∷_, map}
 use mathlib.Core.Bool.{true}
 use mathlib.Core.Logic.{_≢_}
-use Prim.Native.Nat.{ℕ, _+_, _%_, _<_, _≤_}
+use Prim.Native.Nat.{ℕ, zero, suc, _+_, _-_, _%_, _<_, _≤_}
 use native.Mathlib.Numerals.{add-one}
 use native.Mathlib.Omega.{arith}
 use borrow.Author.Count.{below-more}
@@ -13,7 +13,7 @@ use Rattle.std.specs.declared.option.Option.the-variants.{Some, None}
 use Rattle.std.proofs.shelf.Lists.{ext-getD, length-map, getD-map}
 use Rattle.alphabet.specs.Arithmetic.{Arithmetic}
 use Rattle.code.specs.Words.{BlockCode, Message, Carries, symbols-at, first, rest, mask-of}
-use Rattle.code.specs.Laws.{CodeLaws}
+use Rattle.code.specs.Laws.{Ascending, CodeLaws}
 use Rattle.code.specs.Calls.{item}
 use Rattle.code.proofs.Cells.{item-found, item-missing, length-at, getD-at, length-rest, rest-within}
 use Rattle.masking.proofs.SymbolSums.{sum-is, negative-is}
@@ -78,3 +78,15 @@ module _ (code : BlockCode) (laws : CodeLaws code) where
       ∙ ap (code .arithmetic .sum u) (sym (getD-at word is k inside))
       ∙ sym (getD-map (code .arithmetic .sum u) (symbols-at word is) k 0 0 (omega (arith, length-at word is)))) in
       (subst (Message code) (sym same) (message-in-symbols code laws word held), subst (Carries code word) (sym same) (message-in-carried code laws word held))
+
+-- the numbers of an ascending list are at least their places
+ascends-past : (xs : List ℕ) → Ascending xs → (i : ℕ) → i < length xs → i ≤ getD xs i 0
+ascends-past xs up zero h = omega arith
+ascends-past xs up (suc i) h = omega (arith, ascends-past xs up i (omega arith), up i (suc i) (omega arith) h)
+
+-- there are no more information cells than cells
+pub information-few : (code : BlockCode) → CodeLaws code → length (code .information) ≤ code .cells
+information-few code laws =
+    let last : ℕ = length (code .information) - 1 in
+    let inside : last < length (code .information) = omega (arith, laws .information-two) in
+    omega (arith, ascends-past (code .information) (laws .information-ascends) last inside, laws .information-within last inside)
