@@ -23,15 +23,15 @@ use Rattle.masking.proofs.Readings.{one-reading, reads-back}
 
 module _ (code : BlockCode) (laws : CodeLaws code) where
   -- the word written is that far from the code word that it was raised from
-  written-distance : (floors : List ℕ) (allowance : ℕ) (message : List ℕ) (mask forced : ℕ) (word : List ℕ) (w : Writes code floors allowance message mask forced word) → differences word (w .carrier) ≡ forced
+  pub written-distance : (floors : List ℕ) (allowance : ℕ) (message : List ℕ) (mask forced : ℕ) (word : List ℕ) (w : Writes code floors allowance message mask forced word) → differences word (w .carrier) ≡ forced
   written-distance floors allowance message mask forced word w =
       ap (λ x. differences x (w .carrier)) (w .written) ∙ differences-raised floors (w .carrier) ∙ w .fewest .counted
 
-  written-allowed : (floors : List ℕ) (allowance : ℕ) (message : List ℕ) (mask forced : ℕ) (word : List ℕ) → Word code floors → Writes code floors allowance message mask forced word → Allowed code floors word
+  pub written-allowed : (floors : List ℕ) (allowance : ℕ) (message : List ℕ) (mask forced : ℕ) (word : List ℕ) → Word code floors → Writes code floors allowance message mask forced word → Allowed code floors word
   written-allowed floors allowance message mask forced word levels w =
       rw (w .written) (raised-allowed code laws floors (w .carrier) levels (w .fewest .carrying .held))
 
-  nearest : (floors : List ℕ) (allowance : ℕ) (message : List ℕ) (mask forced : ℕ) (word : List ℕ) → Word code floors → Writes code floors allowance message mask forced word → Nearest code floors message mask forced word
+  pub nearest : (floors : List ℕ) (allowance : ℕ) (message : List ℕ) (mask forced : ℕ) (word : List ℕ) → Word code floors → Writes code floors allowance message mask forced word → Nearest code floors message mask forced word
   nearest floors allowance message mask forced word levels w = record {
     allowed = written-allowed floors allowance message mask forced word levels w;
     carrier = w .carrier;
