@@ -1,3 +1,6 @@
 pub mod Marks
 pub mod Shapes
 pub mod OneWay
+pub mod Search
+pub mod Answered
+pub mod Saves
