@@ -4,3 +4,4 @@ pub mod OneWay
 pub mod Search
 pub mod Answered
 pub mod Saves
+pub mod Runs
