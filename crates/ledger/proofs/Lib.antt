@@ -5,3 +5,5 @@ pub mod Search
 pub mod Answered
 pub mod Saves
 pub mod Runs
+pub mod ReadBack
+pub mod Changes
