@@ -7,3 +7,4 @@ pub mod Saves
 pub mod Runs
 pub mod ReadBack
 pub mod Changes
+pub mod Stands
