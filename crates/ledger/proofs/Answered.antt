@@ -16,7 +16,7 @@ use Rattle.code.proofs.Differences.{cases-word}
 use Rattle.masking.specs.Floors.{raised}
 use Rattle.masking.proofs.Carriers.{message-in, message-in-symbols, message-in-carried}
 use Rattle.masking.proofs.Shifts.{some-fewest}
-use Rattle.ledger.specs.Ledger.{Made, Page, page-of, floor-at, BenchCall, floor, Call, save, read, compare, wear, drift, Answer, done, stored, found, compared, refused, Spot, NoSpot, Unreadable, Readable, BenchStep, floored, not-floored, Step, save-no-page, save-wrong-length, save-no-symbol, save-no-mask, saved, read-no-page, read-wrong-room, not-read, is-read, not-compared, other-not-compared, alike, unlike, worn, not-worn, drifted, no-drift, below-its-floor}
+use Rattle.ledger.specs.Ledger.{Made, Page, page-of, floor-at, BenchCall, floor, Call, save, read, compare, wear, drift, Answer, Spot, NoSpot, Unreadable, Readable, BenchStep, floored, not-floored, Step, save-no-page, save-wrong-length, save-no-symbol, save-no-mask, saved, read-no-page, read-wrong-room, not-read, is-read, not-compared, other-not-compared, alike, unlike, worn, not-worn, drifted, no-drift, below-its-floor}
 use Rattle.ledger.proofs.Shapes.{Kept}
 use Rattle.ledger.proofs.Search.{first-of, word-of}
 
@@ -40,11 +40,11 @@ cases-spot made p c v =
     (λ cl.
     ⊎-elim
     (λ vl. inl (record { page-there = pl; cell-there = cl; level-there = vl }))
-    (λ vh. inr (refused 6 2 v, NoSpot.no-level pl cl vh))
+    (λ vh. inr (_, NoSpot.no-level pl cl vh))
     (cases-lt v (made .code .arithmetic .size)))
-    (λ ch. inr (refused 5 2 c, NoSpot.no-cell pl ch))
+    (λ ch. inr (_, NoSpot.no-cell pl ch))
     (cases-lt c (made .code .cells)))
-    (λ ph. inr (refused 4 2 p, NoSpot.no-page ph))
+    (λ ph. inr (_, NoSpot.no-page ph))
     (cases-lt p (made .pages))
 
 cases-message : (o : Option (List ℕ)) → ((m : List ℕ) × (o ≡ Some m)) ⊎ (o ≡ None)
@@ -90,11 +90,11 @@ module _ (made : Made) (laws : CodeLaws (made .code)) where
           };
         },
       ))
-      (λ far. inr (refused 11 1 0, Unreadable.too-far (last .0) low (last .1) far))
+      (λ far. inr (_, Unreadable.too-far (last .0) low (last .1) far))
       (cases-near (page-of made l p .levels)))
-      (λ blank. inr (refused 10 2 p, Unreadable.is-blank low blank))
+      (λ blank. inr (_, Unreadable.is-blank low blank))
       (cases-message (page-of made l p .message)))
-      (λ high. inr (refused 4 2 p, Unreadable.no-page high))
+      (λ high. inr (_, Unreadable.no-page high))
       (cases-lt p (made .pages))
 
   answer-save : (l : List Page) (p : ℕ) (m : List ℕ) → Answered made l (save p m)
@@ -104,22 +104,22 @@ module _ (made : Made) (laws : CodeLaws (made .code)) where
       ⊎-elim
       (λ e.
       ⊎-elim
-      (λ f. (refused 8 2 (f .0), l, save-no-symbol l p m (f .0) low e (f .1)))
+      (λ f. (_, l, save-no-symbol l p m (f .0) low e (f .1)))
       (λ symbols.
       let message : Message (made .code) m = record { whole = e; symbols = symbols } in
       let r = some-fewest (made .code) laws (page-of made l p .floors) m message in
       ⊎-elim
-      (λ large. (refused 9 2 (r .1), l, save-no-mask l p m (r .0) (r .1) (r .2) low message (r .3) large))
+      (λ large. (_, l, save-no-mask l p m (r .0) (r .1) (r .2) low message (r .3) large))
       (λ small. (
-        stored (r .0) (r .1),
+        _,
         _,
         saved l p m (r .0) (r .1) (raised (page-of made l p .floors) (r .2)) low message (record { carrier = r .2; fewest = r .3; within = small; written = refl }),
       ))
       (cases-lt (made .allowance) (r .1)))
       (cases-symbols (made .code .arithmetic .size) m))
-      (λ wrong. (refused 7 2 (length m), l, save-wrong-length l p m low wrong))
+      (λ wrong. (_, l, save-wrong-length l p m low wrong))
       (cases-eq (length m) (length (rest (made .code .information)))))
-      (λ high. (refused 4 2 p, l, save-no-page l p m high))
+      (λ high. (_, l, save-no-page l p m high))
       (cases-lt p (made .pages))
 
   answer-read : (l : List Page) (p n : ℕ) → Kept made l → Answered made l (read p n)
@@ -129,12 +129,12 @@ module _ (made : Made) (laws : CodeLaws (made .code)) where
       ⊎-elim
       (λ e.
       ⊎-elim
-      (λ r. (found (r .0) (r .1), l, is-read l p n (r .0) (r .1) e (r .2)))
+      (λ r. (_, l, is-read l p n (r .0) (r .1) e (r .2)))
       (λ u. (u .0, l, not-read l p n (u .0) low e (u .1)))
       (cases-readable l p kept))
-      (λ wrong. (refused 7 2 n, l, read-wrong-room l p n low wrong))
+      (λ wrong. (_, l, read-wrong-room l p n low wrong))
       (cases-eq n (length (rest (made .code .information)))))
-      (λ high. (refused 4 2 p, l, read-no-page l p n high))
+      (λ high. (_, l, read-no-page l p n high))
       (cases-lt p (made .pages))
 
   answer-compare : (l : List Page) (p r : ℕ) → Kept made l → Answered made l (compare p r)
@@ -144,8 +144,8 @@ module _ (made : Made) (laws : CodeLaws (made .code)) where
       ⊎-elim
       (λ t.
       ⊎-elim
-      (λ e. (compared 1, l, alike l p r (s .0) (t .0) (s .1) (s .2) (subst (λ k. Readable made l r (t .0) k) (sym e) (t .2))))
-      (λ other. (compared 0, l, unlike l p r (s .0) (t .0) (s .1) (t .1) (s .2) (t .2) other))
+      (λ e. (_, l, alike l p r (s .0) (t .0) (s .1) (s .2) (subst (λ k. Readable made l r (t .0) k) (sym e) (t .2))))
+      (λ other. (_, l, unlike l p r (s .0) (t .0) (s .1) (t .1) (s .2) (t .2) other))
       (cases-word (s .1) (t .1)))
       (λ u. (u .0, l, other-not-compared l p r (s .0) (s .1) (u .0) (s .2) (u .1)))
       (cases-readable l r kept))
@@ -153,12 +153,12 @@ module _ (made : Made) (laws : CodeLaws (made .code)) where
       (cases-readable l p kept)
 
   answer-wear : (l : List Page) (p c v : ℕ) → Answered made l (wear p c v)
-  answer-wear l p c v = ⊎-elim (λ s. (done, _, worn l p c v s)) (λ n. (n .0, l, not-worn l p c v (n .0) (n .1))) (cases-spot made p c v)
+  answer-wear l p c v = ⊎-elim (λ s. (_, _, worn l p c v s)) (λ n. (n .0, l, not-worn l p c v (n .0) (n .1))) (cases-spot made p c v)
 
   answer-drift : (l : List Page) (p c v : ℕ) → Answered made l (drift p c v)
   answer-drift l p c v =
       ⊎-elim
-      (λ s. ⊎-elim (λ lower. (refused 12 2 c, l, below-its-floor l p c v s lower)) (λ high. (done, _, drifted l p c v s high)) (cases-lt v (floor-at (page-of made l p) c)))
+      (λ s. ⊎-elim (λ lower. (_, l, below-its-floor l p c v s lower)) (λ high. (_, _, drifted l p c v s high)) (cases-lt v (floor-at (page-of made l p) c)))
       (λ n. (n .0, l, no-drift l p c v (n .0) (n .1)))
       (cases-spot made p c v)
 
@@ -170,4 +170,4 @@ module _ (made : Made) (laws : CodeLaws (made .code)) where
   answered l (drift p c v) kept = answer-drift l p c v
 
 pub bench-answered : (made : Made) (l : List Page) (call : BenchCall) → (a : Answer) × (l′ : List Page) × BenchStep made l call a l′
-bench-answered made l (floor p c v) = ⊎-elim (λ s. (done, _, floored l p c v s)) (λ n. (n .0, l, not-floored l p c v (n .0) (n .1))) (cases-spot made p c v)
+bench-answered made l (floor p c v) = ⊎-elim (λ s. (_, _, floored l p c v s)) (λ n. (n .0, l, not-floored l p c v (n .0) (n .1))) (cases-spot made p c v)

@@ -2,7 +2,7 @@
 use mathlib.Core.Path.{_≡_, refl, ap, ap₂, sym, _∙_}
 use mathlib.Core.Logic.{⊎-elim}
 use mathlib.Core.List.{List}
-use Prim.Native.Nat.{ℕ, _<_, _≤_}
+use Prim.Native.Nat.{ℕ}
 use native.Mathlib.Omega.{arith}
 use lib.ListN.{set}
 use Rattle.std.proofs.shelf.Tests.{cases-order}
@@ -11,10 +11,9 @@ use Rattle.code.specs.Words.{mask-of}
 use Rattle.code.specs.Calls.{FirstBad}
 use Rattle.code.specs.Laws.{CodeLaws}
 use Rattle.masking.specs.Floors.{Fewest, unmet, raised}
-use Rattle.masking.specs.Writing.{Writes}
 use Rattle.masking.proofs.Nearness.{one-fewest}
 use Rattle.masking.proofs.Readings.{one-reading}
-use Rattle.ledger.specs.Ledger.{Made, Page, page-of, with-message, BenchCall, Call, save, read, compare, wear, drift, Answer, stored, found, refused, Spot, NoSpot, Unreadable, Readable, BenchStep, floored, not-floored, Step, save-no-page, save-wrong-length, save-no-symbol, save-no-mask, saved, read-no-page, read-wrong-room, not-read, is-read, not-compared, other-not-compared, alike, unlike, worn, not-worn, drifted, no-drift, below-its-floor}
+use Rattle.ledger.specs.Ledger.{Made, Page, page-of, with-message, BenchCall, Call, save, read, compare, wear, drift, Answer, refused, Spot, NoSpot, Unreadable, Readable, BenchStep, floored, not-floored, Step, save-no-page, save-wrong-length, save-no-symbol, save-no-mask, saved, read-no-page, read-wrong-room, not-read, is-read, not-compared, other-not-compared, alike, unlike, worn, not-worn, drifted, no-drift, below-its-floor}
 
 pub never-some : (m : List ℕ) → None ≡ Some m → ⊥
 never-some m e = let z : _≡_ {A = ℕ} 0 1 = cc in omega arith
@@ -93,7 +92,8 @@ module _ (made : Made) (laws : CodeLaws (made .code)) where
       let e : f .carrier ≡ g .carrier = one-fewest (made .code) laws floors m y z c d (f .carrier) (g .carrier) (f .fewest) (g .fewest) in
       let masks : y ≡ z = sym (f .fewest .masked) ∙ ap (mask-of (made .code)) e ∙ g .fewest .masked in
       let words : v ≡ w = f .written ∙ ap (raised floors) e ∙ sym (g .written) in
-      (ap₂ stored masks (one-count floors m y z c d (f .carrier) (g .carrier) (f .fewest) (g .fewest)), ap₂ (λ x t. set l p (with-message (page-of made l p) m x t)) e words)
+      let counts : c ≡ d = one-count floors m y z c d (f .carrier) (g .carrier) (f .fewest) (g .fewest) in
+      (cc, ap₂ (λ x t. set l p (with-message (page-of made l p) m x t)) e words)
 
   pub one-read : (l : List Page) (p n : ℕ) (l′ l″ : List Page) (a b : Answer) → Step made l (read p n) a l′ → Step made l (read p n) b l″ → (a ≡ b) × (l′ ≡ l″)
   one-read l p n l′ l″ a b (read-no-page _ _ _ _) (read-no-page _ _ _ _) = (refl, refl)
@@ -111,7 +111,7 @@ module _ (made : Made) (laws : CodeLaws (made .code)) where
   one-read l p n l′ l″ a b (is-read _ _ _ _ _ _ r) (read-no-page _ _ _ high) = absurd (omega (arith, r .page-there))
   one-read l p n l′ l″ a b (is-read _ _ _ _ _ e _) (read-wrong-room _ _ _ _ wrong) = absurd (wrong e)
   one-read l p n l′ l″ a b (is-read _ _ _ c m _ r) (not-read _ _ _ _ _ _ u) = absurd (readable-or-not l p c m b r u)
-  one-read l p n l′ l″ a b (is-read _ _ _ c m _ r) (is-read _ _ _ d k _ s) = let e = one-readable l p c d m k r s in (ap₂ found (e .0) (e .1), refl)
+  one-read l p n l′ l″ a b (is-read _ _ _ c m _ r) (is-read _ _ _ d k _ s) = let e = one-readable l p c d m k r s in (cc (e .0, e .1), refl)
 
   pub one-compare : (l : List Page) (p r : ℕ) (l′ l″ : List Page) (a b : Answer) → Step made l (compare p r) a l′ → Step made l (compare p r) b l″ → (a ≡ b) × (l′ ≡ l″)
   one-compare l p r l′ l″ a b (not-compared _ _ _ _ u) (not-compared _ _ _ _ v) = (one-unreadable l p a b u v, refl)

@@ -1,18 +1,18 @@
 -- What a run tells of a page is what the ledger holds of it: the last message, the cells changed since, and no message before a save. Assumes nothing.
 use mathlib.Core.Path.{_≡_, refl, ap, ap₂, sym, _∙_, subst}
 use mathlib.Core.Logic.{_⊎_, inl, inr, ⊎-elim}
-use mathlib.Core.List.{List, [], _∷_}
+use mathlib.Core.List.{List, _∷_}
 use mathlib.Core.Bool.{Bool, true, false, cond}
 use Prim.Native.Nat.{ℕ, _<_, _≤_}
 use native.Mathlib.Omega.{arith}
 use lib.Dec.{eqb}
-use lib.ListN.{length, getD, set}
-use Rattle.std.proofs.shelf.Tests.{cases-eq, cases-bool, cond-true, cond-false, both-ways, eqb-true}
+use lib.ListN.{length, getD}
+use Rattle.std.proofs.shelf.Tests.{cases-eq, cases-bool, cond-false, both-ways, eqb-true}
 use Rattle.std.specs.declared.option.Option.the-variants.{Some, None}
 use Rattle.code.specs.Words.{Message, Carries, mask-of, differences}
 use Rattle.code.specs.Laws.{CodeLaws}
 use Rattle.masking.proofs.Carriers.{one-carrier}
-use Rattle.ledger.specs.Ledger.{Made, Page, blank, page-of, with-cell, with-message, BenchCall, Call, save, read, compare, wear, drift, Answer, done, stored, found, compared, refused, BenchStep, floored, not-floored, Step, saved, AtBench, InService, new, opened}
+use Rattle.ledger.specs.Ledger.{Made, Page, page-of, with-cell, with-message, BenchCall, Call, save, read, compare, wear, drift, Answer, done, stored, found, compared, refused, BenchStep, floored, not-floored, Step, saved, AtBench, InService, new, opened}
 use Rattle.ledger.specs.Runs.{marked, differing, either, grants, never-granted, LastSaved, at-save, since}
 use Rattle.ledger.specs.Promise.{page-named}
 use Rattle.ledger.proofs.Marks.{either-same, either-set, below-floor-differs, length-differing, same-unmarked, unmarked-both, differences-marked}

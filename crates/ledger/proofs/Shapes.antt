@@ -2,21 +2,21 @@
 -- and no level is below its floor. Assumes nothing.
 use mathlib.Core.Path.{_≡_, refl, ap, sym, _∙_}
 use mathlib.Core.Logic.{⊎-elim}
-use mathlib.Core.List.{List, [], _∷_}
-use mathlib.Core.Bool.{Bool, true, false}
-use Prim.Native.Nat.{ℕ, _<_, _≤_, max}
+use mathlib.Core.List.{List}
+use mathlib.Core.Bool.{true, false}
+use Prim.Native.Nat.{ℕ, _<_, _≤_}
 use native.Mathlib.Omega.{arith}
 use lib.ListN.{length, getD, set, replicate}
 use Rattle.std.proofs.shelf.Lists.{length-set, length-replicate, getD-set-same, getD-set-other, getD-replicate, getD-past}
 use Rattle.std.proofs.shelf.Tests.{cases-lt, cases-eq, eq-eqb, cond-true}
-use Rattle.code.specs.Words.{BlockCode, Filled, Word, Message}
+use Rattle.code.specs.Words.{BlockCode, Filled, Word}
 use Rattle.code.specs.Laws.{CodeLaws}
 use Rattle.masking.specs.Floors.{Allowed}
 use Rattle.masking.specs.Writing.{Writes}
 use Rattle.masking.proofs.Carriers.{some-symbol}
 use Rattle.masking.proofs.Masks.{written-allowed}
-use Rattle.ledger.specs.Ledger.{Made, Page, blank, blank-pages, page-of, floor-at, level-at, with-cell, with-floor, with-message, BenchCall, Call, Answer, stored, BenchStep, Step, AtBench, InService, floored, not-floored, save-no-page, save-wrong-length, save-no-symbol, save-no-mask, saved, read-no-page, read-wrong-room, not-read, is-read, not-compared, other-not-compared, alike, unlike, worn, not-worn, drifted, no-drift, below-its-floor, new, opened}
-use Rattle.ledger.specs.Runs.{grants, is-stored}
+use Rattle.ledger.specs.Ledger.{Made, Page, blank, blank-pages, page-of, floor-at, with-cell, with-floor, with-message, BenchCall, Call, Answer, BenchStep, Step, AtBench, InService, floored, not-floored, save-no-page, save-wrong-length, save-no-symbol, save-no-mask, saved, read-no-page, read-wrong-room, not-read, is-read, not-compared, other-not-compared, alike, unlike, worn, not-worn, drifted, no-drift, below-its-floor, new, opened}
+use Rattle.ledger.specs.Runs.{grants}
 use Rattle.ledger.specs.Promise.{page-named}
 use Rattle.ledger.proofs.Marks.{length-below-floor}
 
@@ -151,7 +151,7 @@ module _ (made : Made) (laws : CodeLaws (made .code)) where
   effect l call a l′ kept (worn _ p c v spot) =
       let sound = kept .sound p in
       let inside : c < made .code .cells = spot .cell-there in
-      notes c (max (floor-at (page-of made l p) c) v) (max (level-at (page-of made l p) c) (max (floor-at (page-of made l p) c) v)) (spot .page-there) (omega arith) (omega arith)
+      notes c _ _ (spot .page-there) (omega arith) (omega arith)
       (omega (
         arith,
         sound .floors-fit .symbols c (omega (arith, sound .floors-fit .whole)),
@@ -159,7 +159,7 @@ module _ (made : Made) (laws : CodeLaws (made .code)) where
         spot .level-there,
       ))
   effect l call a l′ kept (not-worn _ _ _ _ _ _) = nothing
-  effect l call a l′ kept (drifted _ p c v spot above) = notes c (floor-at (page-of made l p) c) v (spot .page-there) (omega arith) above (spot .level-there)
+  effect l call a l′ kept (drifted _ p c v spot above) = notes c _ _ (spot .page-there) (omega arith) above (spot .level-there)
   effect l call a l′ kept (no-drift _ _ _ _ _ _) = nothing
   effect l call a l′ kept (below-its-floor _ _ _ _ _ _) = nothing
 

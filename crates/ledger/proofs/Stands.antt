@@ -2,7 +2,7 @@
 use mathlib.Core.List.{List}
 use Prim.Native.Nat.{ℕ, _≤_}
 use Rattle.code.specs.Laws.{CodeLaws}
-use Rattle.ledger.specs.Ledger.{Made, Page, BenchCall, Call, Answer, AtBench, InService}
+use Rattle.ledger.specs.Ledger.{Made, Page, BenchCall, Call, Answer, InService}
 use Rattle.ledger.specs.Promise.{SavePromise, ReadPromise, ChangePromise, BenchPromise, PromiseStands}
 use Rattle.ledger.proofs.Shapes.{Kept, bench-kept, service-kept}
 use Rattle.ledger.proofs.Saves.{refused-only-if-too-far, granted-only-if-near, never-refused-with-few-lost, forced-least, forced-within-allowance}
