@@ -1,5 +1,5 @@
 -- What the promise of every run says of the pages that a call finds. Assumes nothing.
-use Prim.Native.Nat.{ℕ, _≤_}
+use Prim.Native.Nat.{ℕ}
 use mathlib.Core.Path.{subst}
 use mathlib.Core.List.{List}
 use Rattle.code.specs.Words.{BlockCode}
@@ -8,11 +8,9 @@ use Rattle.masking.specs.Floors.{Allowed}
 use Rattle.ledger.specs.Ledger as ledger
 use Rattle.ledger.specs.Ledger.{Made, page-of, BenchCall, Call, Answer, AtBench, InService}
 use Rattle.ledger.specs.Promise.{Promise}
+use Rattle.ledger.proofs.Stands.{promise}
 use Rattle.card.specs.declared.page.Page.{Page}
 use Rattle.card.specs.History.{Shows}
-
-promise : (made : Made) → CodeLaws (made .code) → made .allowance ≤ made .code .radius → Promise made
-promise = ?
 
 module _ {C : Type 0} (meaning : C → BlockCode) (lawful : (c : C) → CodeLaws (meaning c)) (code : C) (allowance : ℕ) (pages : List Page) (made : Made) (l : List ledger.Page) (shows : Shows meaning code allowance pages made l) where
   pub made-lawful : CodeLaws (made .code)
