@@ -7,7 +7,7 @@ use crate::traits::Alphabet;
 const ONE: u8 = 1;
 
 /// The first symbol whose product with `a` is 1, if there is one.
-pub fn find_inverse<S: Alphabet>(alphabet: &S, a: u8) -> Option<u8>
+pub(crate) fn find_inverse<S: Alphabet>(alphabet: &S, a: u8) -> Option<u8>
     ensures { λ r. ⌜ r ≡ inverse-in (meaning (now (alphabet .entry))) (a % meaning (now (alphabet .entry)) .size) ⌝ }
 {
     for x in 0..alphabet.size() {

@@ -16,7 +16,7 @@ fn term(a: u8, b: u8, power: u8) -> u8
 }
 
 /// The product of two polynomials, the second of degree 3 at most.
-pub fn polynomial_product(a: u8, b: u8) -> u8
+pub(crate) fn polynomial_product(a: u8, b: u8) -> u8
     requires { ⌜ a < 16 ⌝ }
     ensures { λ r. ⌜ r ≡ polynomial-product a b ⌝ }
 {
@@ -31,7 +31,7 @@ fn reduced_once(top: u8, p: u8, n: u8) -> u8
 }
 
 /// The remainder of `n` by the polynomial of the field of `q` symbols.
-pub fn reduced(q: u8, n: u8) -> u8
+pub(crate) fn reduced(q: u8, n: u8) -> u8
     requires { ⌜ BinarySize q ⌝ }
     ensures { λ r. ⌜ r ≡ reduced q n ⌝ }
 {

@@ -1,16 +1,16 @@
 -- Tests of all cells, runs of cells, and what stands in the cells that a list names. Assumes nothing.
-use mathlib.Core.Path.{_≡_, refl, ap, ap₂, sym, _∙_}
+use mathlib.Core.Path.{_≡_, refl, ap, ap₂, sym, _∙_, subst}
 use mathlib.Core.Bool.{true, cond}
-use mathlib.Core.Logic.{⊎-elim}
+use mathlib.Core.Logic.{inl, inr, ⊎-elim}
 use mathlib.Core.List.{List, [], _∷_, map}
 use Prim.Native.Nat.{ℕ, zero, suc, _+_, _<_, _≤_}
 use native.Mathlib.Omega.{arith}
 use lib.Dec.{ltb}
-use lib.ListN.{length, getD}
+use lib.ListN.{length, getD, set}
 use Rattle.std.specs.declared.option.Option.{Option}
 use Rattle.std.specs.declared.option.Option.the-variants.{Some, None}
-use Rattle.std.proofs.shelf.Lists.{getD-map, getD-past}
-use Rattle.std.proofs.shelf.Tests.{and-parts, and-from, ltb-true, lt-ltb, cases-lt}
+use Rattle.std.proofs.shelf.Lists.{length-set, getD-set-same, getD-set-other, getD-map, getD-past}
+use Rattle.std.proofs.shelf.Tests.{and-parts, and-from, ltb-true, lt-ltb, cases-eq, cases-lt}
 use Rattle.code.specs.Words.{symbols-at, first, rest}
 use Rattle.code.specs.Calls.{item}
 use Rattle.code.specs.Bare.{all-below, from}
@@ -31,6 +31,14 @@ each-below q (x ∷ xs) h = and-from (ltb x q) (all-below q xs) (lt-ltb x q (h 0
 -- past the end of a list stands 0, which is a symbol too
 pub below-anywhere : (q : ℕ) (xs : List ℕ) → 0 < q → Below q xs → (i : ℕ) → getD xs i 0 < q
 below-anywhere q xs some low i = ⊎-elim (λ l. low i l) (λ l. omega (arith, getD-past xs i 0 l)) (cases-lt i (length xs))
+
+pub below-set : (q : ℕ) (w : List ℕ) (k x : ℕ) → Below q w → x < q → Below q (set w k x)
+below-set q w k x low small i l =
+    let inside : i < length w = omega (arith, length-set w k x) in
+    elim (cases-eq i k) [
+      | inl here ↦ let read : getD (set w k x) i 0 ≡ x = ap (λ (j : ℕ). getD (set w k x) j 0) here ∙ getD-set-same w k x 0 (omega arith) in omega arith
+      | inr other ↦ subst (λ (y : ℕ). y < q) (sym (getD-set-other w k i x 0 other)) (low i inside)
+    ]
 
 pub length-from : (a n : ℕ) → length (from a n) ≡ n
 length-from a zero = refl

@@ -1,29 +1,18 @@
 -- A message put into the information cells of a word, one symbol after the other. Assumes nothing.
-use mathlib.Core.Path.{_≡_, refl, ap, sym, _∙_, subst}
-use mathlib.Core.Logic.{_≢_, inl, inr}
-use mathlib.Core.List.{List, [], _∷_}
-use Prim.Native.Nat.{ℕ, zero, suc, _+_, _<_, _≤_}
-use native.Mathlib.Numerals.{add-one}
+use mathlib.Core.Path.{_≡_, ap, sym, _∙_}
+use mathlib.Core.List.{List, _∷_}
+use Prim.Native.Nat.{ℕ, _+_, _<_, _≤_}
 use native.Mathlib.Omega.{arith}
 use borrow.Author.Count.{below-more}
 use lib.ListN.{length, getD, set, replicate, length-replicate}
 use Rattle.std.specs.declared.option.Option.the-variants.{Some}
 use Rattle.std.proofs.shelf.Lists.{ext-getD, length-set, getD-set-same, getD-set-other, getD-replicate}
-use Rattle.std.proofs.shelf.Tests.{cases-eq}
 use Rattle.code.specs.Words.{BlockCode, Word, Message, symbols-at, first, rest}
 use Rattle.code.specs.Laws.{CodeLaws}
 use Rattle.code.specs.Calls.{item}
-use Rattle.code.proofs.Cells.{Below, length-at, getD-at, at-split, length-rest, first-within}
+use Rattle.code.proofs.Cells.{below-set, length-at, getD-at, at-split, length-rest, first-within}
 use Rattle.masking.proofs.Carriers.{some-symbol, some-information}
 use Rattle.masking.proofs.Information.{getD-first, getD-rest, cell-within, rest-cell}
-
-pub below-set : (q : ℕ) (w : List ℕ) (k x : ℕ) → Below q w → x < q → Below q (set w k x)
-below-set q w k x low small i l =
-    let inside : i < length w = omega (arith, length-set w k x) in
-    elim (cases-eq i k) [
-      | inl here ↦ let read : getD (set w k x) i 0 ≡ x = ap (λ (j : ℕ). getD (set w k x) j 0) here ∙ getD-set-same w k x 0 (omega arith) in omega arith
-      | inr other ↦ subst (λ (y : ℕ). y < q) (sym (getD-set-other w k i x 0 other)) (low i inside)
-    ]
 
 -- the first i symbols of a message are in place
 pub record Placed (code : BlockCode) (message word : List ℕ) (i : ℕ) : Type 0 where

@@ -5,6 +5,7 @@ ghost use lib.ListN.{length};
 ghost use Rattle.code.specs.Words.{Message, Carries, rest, mask-of};
 ghost use Rattle.masking.specs.Reading.{ReadAs, ReadsOneWay};
 ghost use Rattle.masking.specs.Unread.{unread-as};
+use super::lengths::message_length;
 use super::refusals::Refusal;
 use alphabet::Alphabet;
 use code::Code;
@@ -26,7 +27,7 @@ pub fn read<C: Code>(code: &C, levels: &[u8], message: &mut [u8]) -> Result<usiz
     let word = &mut scratch[0..cells];
     word.copy_from_slice(levels);
     let room = message.len();
-    let wanted = code.dimension() - 1;
+    let wanted = message_length(code);
     match code.correct(word) {
         Ok(corrected) => {
             if room != wanted {

@@ -7,9 +7,10 @@ ghost use Rattle.code.specs.Words.{Filled, Word, Message, symbols-at};
 ghost use Rattle.masking.specs.Floors.{unmet, raised};
 ghost use Rattle.masking.specs.MaskingCode.{WritingMasks};
 ghost use Rattle.masking.specs.Shifts.{shift, FewestBelow};
-ghost use Rattle.masking.specs.Unwritten.{unfit-floors};
+ghost use Rattle.masking.specs.Unwritten.{unfit-floors, unfit-message};
 ghost use Rattle.masking.specs.Writing.{Page, NoMessage, Unwritable, WrittenAs, RefusedExactly, GrantedWhileFewLost, ForcedLeast};
 ghost use Rattle.std.specs.Results.{Cases};
+use super::lengths::message_length;
 use super::refusals::Refusal;
 use alphabet::Alphabet;
 use code::Code;
@@ -100,17 +101,22 @@ fn unfit_floors(refusal: alphabet::Refusal, floors: &[u8]) -> Refusal
 fn check_message<C: Code>(code: &C, message: &[u8]) -> Result<(), Refusal>
     ensures { λ r. ⌜ Cases r (λ _. Message (C·Code .meaning (now (code .entry))) (now (message .entry))) (NoMessage (C·Code .meaning (now (code .entry))) (now (message .entry))) ⌝ }
 {
-    let symbols = message.len();
-    if symbols != code.dimension() - 1 {
-        return Err(Refusal::MessageLength { length: symbols });
-    }
     let size = code.alphabet().size();
-    for (index, symbol) in message.iter().enumerate() {
-        if *symbol >= size {
-            return Err(Refusal::MessageSymbol { index });
-        }
+    match check_word(message_length(code), size, message) {
+        Ok(()) => Ok(()),
+        Err(refusal) => Err(unfit_message(refusal)),
     }
-    Ok(())
+}
+
+/// A message that is no list of so many symbols is refused as a message.
+fn unfit_message(refusal: alphabet::Refusal) -> Refusal
+    ensures { λ r. ⌜ r ≡ unfit-message refusal ⌝ }
+{
+    match refusal {
+        alphabet::Refusal::WordLength { length } => Refusal::MessageLength { length },
+        alphabet::Refusal::NotASymbol { index } => Refusal::MessageSymbol { index },
+        _ => Refusal::Coding { refusal },
+    }
 }
 
 /// How many cells are below their floors once the mask is added to all.

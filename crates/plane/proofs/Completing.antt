@@ -15,7 +15,8 @@ use Rattle.plane.specs.Lines.{SumsOf}
 use Rattle.plane.specs.declared.three_sums.Sums.{Sums}
 use Rattle.plane.proofs.Information.{two-rows, same-information}
 use Rattle.plane.proofs.Weights.{levels, rows, columns}
-use Rattle.plane.proofs.CodeWords.{below-set, sum-under}
+use Rattle.code.proofs.Cells.{below-set}
+use Rattle.plane.proofs.CodeWords.{sum-under}
 use Rattle.plane.proofs.Solved.{solved, solved-other, solved-word, solved-at-once}
 use Rattle.plane.proofs.Holds.{levels-are, rows-are, columns-are, word-holds}
 

@@ -13,9 +13,9 @@ use Rattle.plane.proofs.Information.{length-information, same-outside}
 use Rattle.sums.proofs.Ring.{Ring}
 use Rattle.sums.proofs.AllSymbols.{Finite}
 use Rattle.sums.proofs.Lists.{sum-set-zero, level-kept}
-use Rattle.code.proofs.Cells.{Below}
+use Rattle.code.proofs.Cells.{below-set, Below}
 use Rattle.plane.proofs.Weights.{Check, levels, rows, columns, weight, rows-0, rows-1, rows-size, columns-0, columns-1}
-use Rattle.plane.proofs.CodeWords.{CodeWord, below-set, sum-under}
+use Rattle.plane.proofs.CodeWords.{CodeWord, sum-under}
 use Rattle.plane.proofs.Spread.{spread, spread-0, spread-1, spread-length, spread-check, spread-below, carried}
 use Rattle.plane.proofs.Solved.{size-below, solved, solved-other, solved-word}
 

@@ -13,9 +13,9 @@ use Rattle.code.proofs.Differences.{same-or-differs}
 use Rattle.sums.proofs.Ring.{Ring, one-⊗, ⊗-neg, ⊕-undo, zero-from-same}
 use Rattle.sums.proofs.AllSymbols.{Finite}
 use Rattle.sums.proofs.Lists.{level, sum-set}
-use Rattle.code.proofs.Cells.{Below}
+use Rattle.code.proofs.Cells.{below-set, Below}
 use Rattle.plane.proofs.Weights.{Check, levels, rows, columns, weight}
-use Rattle.plane.proofs.CodeWords.{CodeWord, below-set, sum-under}
+use Rattle.plane.proofs.CodeWords.{CodeWord, sum-under}
 use Rattle.plane.proofs.Apart.{not-one}
 
 module _ (F : Finite) where

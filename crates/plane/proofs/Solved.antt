@@ -9,9 +9,9 @@ use Rattle.plane.proofs.Information.{two-rows}
 use Rattle.sums.proofs.Ring.{Ring, neg-zero}
 use Rattle.sums.proofs.AllSymbols.{Finite}
 use Rattle.sums.proofs.Lists.{level, sum-set-zero, sum-set-one}
-use Rattle.code.proofs.Cells.{Below}
+use Rattle.code.proofs.Cells.{below-set, Below}
 use Rattle.plane.proofs.Weights.{Check, levels, rows, columns, weight, rows-0, rows-1, rows-size, columns-0, columns-1, columns-size}
-use Rattle.plane.proofs.CodeWords.{CodeWord, below-set, sum-under}
+use Rattle.plane.proofs.CodeWords.{CodeWord, sum-under}
 
 module _ (F : Finite) where
   infixl 65 _⊕_

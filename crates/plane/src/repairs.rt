@@ -22,7 +22,7 @@ fn put_checks(word: &mut [u8], q: usize, at_q: u8, at_1: u8, at_0: u8)
 }
 
 /// Sets the check cells to what makes the word a code word: the cell q is alone in the rows' sum, then 1 in the columns'.
-pub fn fill_checks<A: Alphabet>(alphabet: &A, word: &mut [u8])
+pub(crate) fn fill_checks<A: Alphabet>(alphabet: &A, word: &mut [u8])
     requires { ⌜ Word (plane-over (A·Alphabet .meaning (now alphabet))) (now word) ⌝ }
     ensures { λ _. ⌜ Completes (plane-over (A·Alphabet .meaning (now (alphabet .entry)))) (now (word .entry)) (now (word .exit)) ⌝ }
 {
@@ -38,7 +38,7 @@ pub fn fill_checks<A: Alphabet>(alphabet: &A, word: &mut [u8])
 }
 
 /// Lowers the one wrong cell: the other sums divided by the levels' are its row and column, and it is too high by the levels' sum.
-pub fn mend<A: Alphabet>(alphabet: &A, word: &mut [u8], sums: Sums, inverse: u8)
+pub(crate) fn mend<A: Alphabet>(alphabet: &A, word: &mut [u8], sums: Sums, inverse: u8)
     requires fit { ⌜ Word (plane-over (A·Alphabet .meaning (now alphabet))) (now word) ⌝ }
     requires summed { ⌜ SumsOf (A·Alphabet .meaning (now alphabet)) (now word) sums ⌝ }
     requires inverts { ⌜ Inverts (A·Alphabet .meaning (now alphabet)) (sums .levels) inverse ⌝ }

@@ -54,7 +54,7 @@ fn by_place<A: Alphabet>(alphabet: &A, symbols: &[u8]) -> u8
 }
 
 /// The three sums of a word.
-pub fn sums_of<A: Alphabet>(alphabet: &A, word: &[u8]) -> Sums
+pub(crate) fn sums_of<A: Alphabet>(alphabet: &A, word: &[u8]) -> Sums
     requires { ⌜ Word (plane-over (A·Alphabet .meaning (now alphabet))) (now word) ⌝ }
     ensures { λ r. ⌜ SumsOf (A·Alphabet .meaning (now (alphabet .entry))) (now (word .entry)) r ⌝ }
 {
