@@ -109,7 +109,7 @@ module _ (made : Made) (laws : CodeLaws (made .code)) where
       let message : Message (made .code) m = record { whole = e; symbols = symbols } in
       let r = some-fewest (made .code) laws (page-of made l p .floors) m message in
       ⊎-elim
-      (λ large. (_, l, save-no-mask l p m (r .0) (r .1) (r .2) low message (r .3) large))
+      (λ large. (_, l, save-no-mask l p m (r .0) (r .1) (r .2) low message (r .3) (omega (arith, large))))
       (λ small. (
         _,
         _,

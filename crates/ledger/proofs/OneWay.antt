@@ -23,7 +23,7 @@ one-first-bad : (size : ℕ) (m : List ℕ) (i j : ℕ) → FirstBad size m i �
 one-first-bad size m i j f g =
     ⊎-elim (λ e. e) (λ o. ⊎-elim (λ l. absurd (omega (arith, f .bad, g .before i l))) (λ l. absurd (omega (arith, g .bad, f .before j l))) o) (cases-order i j)
 
-pub one-no-spot : (made : Made) (p c v : ℕ) (a b : Answer) → NoSpot made p c v a → NoSpot made p c v b → a ≡ b
+one-no-spot : (made : Made) (p c v : ℕ) (a b : Answer) → NoSpot made p c v a → NoSpot made p c v b → a ≡ b
 one-no-spot made p c v a b (NoSpot.no-page _) (NoSpot.no-page _) = refl
 one-no-spot made p c v a b (NoSpot.no-page x1) (NoSpot.no-cell x2 x3) = absurd (omega arith)
 one-no-spot made p c v a b (NoSpot.no-page x1) (NoSpot.no-level x2 x3 x4) = absurd (omega arith)
@@ -43,7 +43,7 @@ module _ (made : Made) (laws : CodeLaws (made .code)) where
   one-count : (floors m : List ℕ) (y z a b : ℕ) (v w : List ℕ) → Fewest (made .code) floors m y a v → Fewest (made .code) floors m z b w → a ≡ b
   one-count floors m y z a b v w f g = sym (f .counted) ∙ ap (unmet floors) (one-fewest (made .code) laws floors m y z a b v w f g) ∙ g .counted
 
-  pub one-unreadable : (l : List Page) (p : ℕ) (a b : Answer) → Unreadable made l p a → Unreadable made l p b → a ≡ b
+  one-unreadable : (l : List Page) (p : ℕ) (a b : Answer) → Unreadable made l p a → Unreadable made l p b → a ≡ b
   one-unreadable l p a b (Unreadable.no-page _) (Unreadable.no-page _) = refl
   one-unreadable l p a b (Unreadable.no-page x1) (Unreadable.is-blank x2 x3) = absurd (omega arith)
   one-unreadable l p a b (Unreadable.no-page x1) (Unreadable.too-far x2 x3 x4 x5) = absurd (omega arith)
@@ -54,15 +54,15 @@ module _ (made : Made) (laws : CodeLaws (made .code)) where
   one-unreadable l p a b (Unreadable.too-far m _ f _) (Unreadable.is-blank _ e) = absurd (never-some m (sym e ∙ f))
   one-unreadable l p a b (Unreadable.too-far _ _ _ _) (Unreadable.too-far _ _ _ _) = refl
 
-  pub readable-or-not : (l : List Page) (p c : ℕ) (m : List ℕ) (a : Answer) → Readable made l p c m → Unreadable made l p a → ⊥
+  readable-or-not : (l : List Page) (p c : ℕ) (m : List ℕ) (a : Answer) → Readable made l p c m → Unreadable made l p a → ⊥
   readable-or-not l p c m a r (Unreadable.no-page x1) = omega arith
   readable-or-not l p c m a r (Unreadable.is-blank _ e) = never-some (r .last) (sym e ∙ r .taken)
   readable-or-not l p c m a r (Unreadable.too-far _ _ _ far) = omega (arith, far (r .reads .carrier) (r .reads .carrying .held), r .reads .near, r .reads .within)
 
-  pub one-readable : (l : List Page) (p c d : ℕ) (m n : List ℕ) → Readable made l p c m → Readable made l p d n → (c ≡ d) × (m ≡ n)
+  one-readable : (l : List Page) (p c d : ℕ) (m n : List ℕ) → Readable made l p c m → Readable made l p d n → (c ≡ d) × (m ≡ n)
   one-readable l p c d m n r s = one-reading (made .code) laws (page-of made l p .levels) c d m n (r .reads) (s .reads)
 
-  pub one-save : (l : List Page) (p : ℕ) (m : List ℕ) (l′ l″ : List Page) (a b : Answer) → Step made l (save p m) a l′ → Step made l (save p m) b l″ → (a ≡ b) × (l′ ≡ l″)
+  one-save : (l : List Page) (p : ℕ) (m : List ℕ) (l′ l″ : List Page) (a b : Answer) → Step made l (save p m) a l′ → Step made l (save p m) b l″ → (a ≡ b) × (l′ ≡ l″)
   one-save l p m l′ l″ a b (save-no-page _ _ _ _) (save-no-page _ _ _ _) = (refl, refl)
   one-save l p m l′ l″ a b (save-no-page x1 x2 x3 x4) (save-wrong-length x5 x6 x7 x8 x9) = absurd (omega arith)
   one-save l p m l′ l″ a b (save-no-page x1 x2 x3 x4) (save-no-symbol x5 x6 x7 x8 x9 x10 x11) = absurd (omega arith)
@@ -133,13 +133,13 @@ module _ (made : Made) (laws : CodeLaws (made .code)) where
       absurd (other (sym (one-readable l p c e m k s u .1) ∙ one-readable l r d f m n t v .1))
   one-compare l p r l′ l″ a b (unlike _ _ _ _ _ _ _ _ _ _) (unlike _ _ _ _ _ _ _ _ _ _) = (refl, refl)
 
-  pub one-wear : (l : List Page) (p c v : ℕ) (l′ l″ : List Page) (a b : Answer) → Step made l (wear p c v) a l′ → Step made l (wear p c v) b l″ → (a ≡ b) × (l′ ≡ l″)
+  one-wear : (l : List Page) (p c v : ℕ) (l′ l″ : List Page) (a b : Answer) → Step made l (wear p c v) a l′ → Step made l (wear p c v) b l″ → (a ≡ b) × (l′ ≡ l″)
   one-wear l p c v l′ l″ a b (worn _ _ _ _ _) (worn _ _ _ _ _) = (refl, refl)
   one-wear l p c v l′ l″ a b (worn _ _ _ _ s) (not-worn _ _ _ _ _ n) = absurd (spot-or-not made p c v b s n)
   one-wear l p c v l′ l″ a b (not-worn _ _ _ _ _ n) (worn _ _ _ _ s) = absurd (spot-or-not made p c v a s n)
   one-wear l p c v l′ l″ a b (not-worn _ _ _ _ _ n) (not-worn _ _ _ _ _ o) = (one-no-spot made p c v a b n o, refl)
 
-  pub one-drift : (l : List Page) (p c v : ℕ) (l′ l″ : List Page) (a b : Answer) → Step made l (drift p c v) a l′ → Step made l (drift p c v) b l″ → (a ≡ b) × (l′ ≡ l″)
+  one-drift : (l : List Page) (p c v : ℕ) (l′ l″ : List Page) (a b : Answer) → Step made l (drift p c v) a l′ → Step made l (drift p c v) b l″ → (a ≡ b) × (l′ ≡ l″)
   one-drift l p c v l′ l″ a b (drifted _ _ _ _ _ _) (drifted _ _ _ _ _ _) = (refl, refl)
   one-drift l p c v l′ l″ a b (drifted _ _ _ _ s _) (no-drift _ _ _ _ _ n) = absurd (spot-or-not made p c v b s n)
   one-drift l p c v l′ l″ a b (drifted x1 x2 x3 x4 x5 x6) (below-its-floor x7 x8 x9 x10 x11 x12) = absurd (omega arith)

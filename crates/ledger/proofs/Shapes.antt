@@ -173,7 +173,7 @@ module _ (made : Made) (laws : CodeLaws (made .code)) where
   pub step-kept : (l : List Page) (call : Call) (a : Answer) (l′ : List Page) → Kept made l → Step made l call a l′ → Kept made l′
   step-kept l call a l′ kept step = effect-kept l call a l′ kept (effect l call a l′ kept step)
 
-  pub bench-step-kept : (l : List Page) (call : BenchCall) (a : Answer) (l′ : List Page) → Kept made l → BenchStep made l call a l′ → Kept made l′
+  bench-step-kept : (l : List Page) (call : BenchCall) (a : Answer) (l′ : List Page) → Kept made l → BenchStep made l call a l′ → Kept made l′
   bench-step-kept l call a l′ kept (floored _ p c v spot) = set-kept l p _ kept (spot .page-there) (with-floor-sound (page-of made l p) c v (kept .sound p) (spot .level-there))
   bench-step-kept l call a l′ kept (not-floored _ _ _ _ _ _) = kept
 
