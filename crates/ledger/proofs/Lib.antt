@@ -8,3 +8,4 @@ pub mod Runs
 pub mod ReadBack
 pub mod Changes
 pub mod Stands
+pub mod NewCards

@@ -1,3 +1,4 @@
 pub mod Ledger
 pub mod Runs
 pub mod Promise
+pub mod NewCard
