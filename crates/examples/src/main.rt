@@ -15,9 +15,14 @@ use pages::work_all;
 use plane_examples::PLANE_EXAMPLES;
 use std::io;
 use symbols::multiply_and_invert;
+use worked::worked_examples;
 
 fn main(rt: LibcRuntime) -> io::Result<()> {
-    rt.println("Worked examples\n")?;
+    let established = worked_examples();
+    println!(
+        rt,
+        "The {established} worked examples, each established from the definitions too\n"
+    )?;
     work_all(&rt, &BARE_EXAMPLES)?;
     work_all(&rt, &PLANE_EXAMPLES)?;
     multiply_and_invert(&rt)?;
