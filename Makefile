@@ -22,9 +22,11 @@ help:
 	@echo 'make clean       remove target/'
 
 run:
-	rt check examples
+	rt check examples cardlife
 	@echo
 	@target/bin/examples
+	@echo
+	@target/bin/cardlife
 
 test:
 	.ci/run
