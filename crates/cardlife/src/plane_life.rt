@@ -123,7 +123,7 @@ const CALLS: [Request<'static>; 38] = [
     },
     Request::Compare { one: 0, other: 1 },
     Request::Compare { one: 0, other: 2 },
-    // a floor under a level moves nothing, one above it moves the cell, a lower one is not taken over
+    // a floor below the level moves nothing, one above it moves the cell, and a lower one leaves the floor
     Request::Wear {
         page: 1,
         cell: 8,
