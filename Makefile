@@ -14,7 +14,7 @@ crates := crates.txt $(shell find crates -type f \( -name '*.rt' -o -name '*.ant
 .DELETE_ON_ERROR:
 
 help:
-	@echo 'make run         prove and build the examples, and run them'
+	@echo 'make run         prove, build and run the worked examples and the lives of cards'
 	@echo 'make test        the gate: prove everything from nothing, compare the readers'
 	@echo 'make host        prove the handset read and build the C programs into $(host)/'
 	@echo 'make host-check  compare the proved reader with the plain C one'

@@ -22,39 +22,39 @@ const FLOORS: [BenchFloor; 7] = [
     BenchFloor {
         page: 15,
         cell: 1,
-        level: 9,
+        floor: 9,
     },
     BenchFloor {
         page: 15,
         cell: 2,
-        level: 6,
+        floor: 6,
     },
     // a floor is replaced, here by none
     BenchFloor {
         page: 15,
         cell: 3,
-        level: 15,
+        floor: 15,
     },
     BenchFloor {
         page: 15,
         cell: 3,
-        level: 0,
+        floor: 0,
     },
     // there are pages 0 to 15, cells 0 to 3 and levels 0 to 15
     BenchFloor {
         page: 16,
         cell: 0,
-        level: 1,
+        floor: 1,
     },
     BenchFloor {
         page: 15,
         cell: 4,
-        level: 1,
+        floor: 1,
     },
     BenchFloor {
         page: 15,
         cell: 0,
-        level: 16,
+        floor: 16,
     },
 ];
 

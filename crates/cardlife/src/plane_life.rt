@@ -27,39 +27,39 @@ const FLOORS: [BenchFloor; 7] = [
     BenchFloor {
         page: 0,
         cell: 1,
-        level: 1,
+        floor: 1,
     },
     // a floor is replaced, here by a lower one
     BenchFloor {
         page: 0,
         cell: 4,
-        level: 2,
+        floor: 2,
     },
     BenchFloor {
         page: 0,
         cell: 4,
-        level: 1,
+        floor: 1,
     },
     BenchFloor {
         page: 0,
         cell: 5,
-        level: 1,
+        floor: 1,
     },
     // page, cell and level are judged in this order
     BenchFloor {
         page: 2,
         cell: 9,
-        level: 3,
+        floor: 3,
     },
     BenchFloor {
         page: 0,
         cell: 9,
-        level: 3,
+        floor: 3,
     },
     BenchFloor {
         page: 0,
         cell: 8,
-        level: 3,
+        floor: 3,
     },
 ];
 

@@ -43,8 +43,8 @@ pub impl Told for BenchFloor as BenchFloorTold {
     fn tell<W: fmt::Write>(&self, f: &mut fmt::Formatter<W>) -> fmt::Result {
         let page = self.page;
         let cell = self.cell;
-        let level = self.level;
-        write!(f, "floor {level} at page {page}, cell {cell}")
+        let floor = self.floor;
+        write!(f, "floor {floor} at page {page}, cell {cell}")
     }
 }
 

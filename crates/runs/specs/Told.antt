@@ -11,7 +11,7 @@ use Rattle.runs.specs.declared.replies.Reply.{Reply}
 use Rattle.runs.specs.declared.replies.Reply.the-variants.{Done, Stored, Found, Compared, Refused}
 
 abbrev pub bench-call : BenchFloor → BenchCall
-bench-call f = floor (f .page) (f .cell) (f .level)
+bench-call f = floor (f .page) (f .cell) (f .floor)
 
 abbrev pub call-of : Request → Call
 call-of (Save page symbols) = save page (symbols .now)

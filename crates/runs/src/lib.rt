@@ -7,6 +7,7 @@ mod requests;
 pub use lives::Life;
 pub use lives::live;
 pub use performs::perform;
+pub use performs::set_floor;
 pub use replies::Reply;
 pub use requests::BenchFloor;
 pub use requests::Request;

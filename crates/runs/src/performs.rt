@@ -16,7 +16,7 @@ use std::alloc::Global;
 pub fn set_floor<C: Code>(card: &mut Bench<C>, floor: BenchFloor) -> Reply
     ensures { λ r. ⌜ BenchContinues (C·Code .meaning) (now (card .entry)) (bench-call floor) (answer-of r) (now (card .exit)) ⌝ }
 {
-    match card.set_floor(floor.page, floor.cell, floor.level) {
+    match card.set_floor(floor.page, floor.cell, floor.floor) {
         Ok(()) => Reply::Done,
         Err(refusal) => Reply::Refused { refusal },
     }

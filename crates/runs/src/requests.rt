@@ -5,7 +5,7 @@
 pub struct BenchFloor {
     pub page: usize,
     pub cell: usize,
-    pub level: usize,
+    pub floor: usize,
 }
 
 /// A call of a card in service.
