@@ -1,0 +1,5 @@
+pub mod Refusals
+pub mod Fields
+pub mod Verbs
+pub mod Parsing
+pub mod Steps

@@ -1,0 +1,12 @@
+// The lines of a bench sheet: cut at line feeds, and each one parsed.
+mod fields;
+mod parsing;
+mod refusals;
+mod verbs;
+
+pub use fields::field;
+pub use fields::take_field;
+pub use parsing::Line;
+pub use parsing::parse;
+pub use refusals::Refusal;
+pub use refusals::check_sheet;
