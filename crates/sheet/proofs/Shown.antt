@@ -129,3 +129,12 @@ letters (w ∷ []) a b c d e = absurd (omega (arith, ap length e))
 letters (w ∷ x ∷ []) a b c d e = absurd (omega (arith, ap length e))
 letters (w ∷ x ∷ y ∷ []) a b c d e = absurd (omega (arith, ap length e))
 letters (w ∷ x ∷ y ∷ z ∷ xs) a b c d e = (omega arith, cc, cc, cc, cc)
+
+-- four columns show a number below 10,000
+pub shown-small : (cs : List ℕ) (v : ℕ) → Shows (take 4 cs) v → v < 10000
+unfolding Shows
+shown-small cs v e =
+    ⊎-elim
+    (λ l. l)
+    (λ g. absurd (omega (arith, digits-long v g, ap length e, length-take 4 cs, length-append (replicate (4 - length (digits v)) 32) (digits v))))
+    (cases-lt v 10000)

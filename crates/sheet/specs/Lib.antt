@@ -3,3 +3,4 @@ pub mod Fields
 pub mod Verbs
 pub mod Parsing
 pub mod Steps
+pub mod Cutting

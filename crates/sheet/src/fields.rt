@@ -5,6 +5,9 @@ ghost use Prim.Native.Nat.{_+_, _<_};
 ghost use Rattle.std.specs.Options.{Cases as BySome};
 ghost use Rattle.sheet.specs.Fields.{Field, IsDigit, Taken};
 
+/// The columns of a field.
+pub const FIELD: usize = 4;
+
 /// The number that four columns show.
 pub fn field(w: u8, x: u8, y: u8, z: u8) -> Option<u16>
     ensures { λ r. ⌜ Field (w ∷ x ∷ y ∷ z ∷ []) r ⌝ }

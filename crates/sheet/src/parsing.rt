@@ -1,11 +1,11 @@
 // What a line says: its verb, its numbers, and the symbols that it borrows from the sheet.
-ghost use mathlib.Core.Path.{_≡_};
 ghost use Prim.Native.Nat.{_≤_, _<_};
-ghost use lib.ListN.{length, drop};
+ghost use lib.ListN.{length};
 ghost use Rattle.sheet.specs.Parsing.{Parsed};
 ghost use Rattle.sheet.specs.Steps.{Next, SpotRead, SymbolsRead, LineRead};
 ghost use Rattle.sheet.specs.Verbs.{Counted};
 ghost use Rattle.sheet.specs.declared.verbs.Verb.the-variants.{Card as CardVerb, Same as SameVerb, Save as SaveVerb};
+use crate::fields::FIELD;
 use crate::fields::take_field;
 use crate::refusals::Refusal;
 use crate::verbs::Verb;
@@ -17,9 +17,6 @@ const LONGEST_LINE: usize = 1_028;
 
 /// The column that a line's first field begins at, from 1.
 const FIRST_FIELD: usize = 5;
-
-/// The columns of a field.
-const FIELD: usize = 4;
 
 /// A line of a sheet. It keeps the part of the sheet that holds its symbols.
 #[derive(Clone, Copy)]

@@ -1,10 +1,6 @@
 // The verbs of a sheet's lines, and how many fields follow each.
-ghost use mathlib.Core.List.{List};
-ghost use lib.ListN.{length};
 ghost use Rattle.sheet.specs.Verbs.{Begins, Counted, Tells};
-
-/// The columns of a field.
-const FIELD: usize = 4;
+use crate::fields::FIELD;
 
 /// What a line begins with.
 #[derive(Clone, Copy)]
