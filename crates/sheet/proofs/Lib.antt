@@ -1,3 +1,4 @@
 pub mod Shown
 pub mod Steps
 pub mod Cuts
+pub mod Readings

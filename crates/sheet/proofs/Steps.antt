@@ -33,7 +33,7 @@ shift cs more k e =
     let at : 4 + 4 * k ≡ 4 * (k + 1) = omega arith in
     ap (λ l. take 4 (drop (4 * k) l)) e ∙ ap (take 4) (drop-drop (4 * k) 4 cs) ∙ ap (λ n. take 4 (drop n cs)) at
 
-both : (cs more : List ℕ) (index v : ℕ) → Shows (take 4 cs) v → more ≡ drop 4 cs → ((k : ℕ) → k < index → WellFormed (field-at more k)) → (k : ℕ) → k < index + 1 → WellFormed (field-at cs k)
+pub both : (cs more : List ℕ) (index v : ℕ) → Shows (take 4 cs) v → more ≡ drop 4 cs → ((k : ℕ) → k < index → WellFormed (field-at more k)) → (k : ℕ) → k < index + 1 → WellFormed (field-at cs k)
 both cs more index v s e h zero l = (v, s)
 both cs more index v s e h (suc k) l = subst (λ n. WellFormed (field-at cs n)) (add-one k) (subst WellFormed (shift cs more k e) (h k (omega arith)))
 

@@ -4,3 +4,4 @@ pub mod Verbs
 pub mod Parsing
 pub mod Steps
 pub mod Cutting
+pub mod Readings

@@ -11,6 +11,7 @@ pub use cutting::cut_line;
 pub use fields::field;
 pub use fields::take_field;
 pub use parsing::Line;
+pub use parsing::one_reading;
 pub use parsing::parse;
 pub use refusals::Refusal;
 pub use refusals::check_sheet;

@@ -2,6 +2,7 @@
 ghost use Prim.Native.Nat.{_≤_, _<_};
 ghost use lib.ListN.{length};
 ghost use Rattle.sheet.specs.Parsing.{Parsed};
+ghost use Rattle.sheet.specs.Readings.{OneReading};
 ghost use Rattle.sheet.specs.Steps.{Next, SpotRead, SymbolsRead, LineRead};
 ghost use Rattle.sheet.specs.Verbs.{Counted};
 ghost use Rattle.sheet.specs.declared.verbs.Verb.the-variants.{Card as CardVerb, Same as SameVerb, Save as SaveVerb};
@@ -73,6 +74,11 @@ pub fn parse<'a>(line: &'a [u8]) -> Result<Line<'a>, Refusal>
     }
     read_fields(verb, columns)
 }
+
+/// A line has one reading: whatever the definition of parsing grants of it says the same.
+pub fn one_reading()
+    ensures { λ _. ⌜ OneReading ⌝ }
+{}
 
 /// The line of a verb and its fields.
 fn read_fields<'a>(verb: Verb, columns: &'a [u8]) -> Result<Line<'a>, Refusal>
