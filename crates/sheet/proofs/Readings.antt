@@ -19,7 +19,7 @@ use Rattle.sheet.specs.declared.parsing.Line.{Line}
 use Rattle.sheet.specs.declared.parsing.Line.the-variants.{Card, Floor, Worn, Move, Open, Read, Same, Save}
 use Rattle.sheet.specs.Fields.{Shows, WellFormed, IllFormed}
 use Rattle.sheet.specs.Verbs.{name, Counted}
-use Rattle.sheet.specs.Parsing.{verb-of, numbers, field-at, Show, AllShow, Lends, Formed, FirstIll, Parsed}
+use Rattle.sheet.specs.Parsing.{verb-of, numbers, field-at, BeginWith, AllWellFormed, Lends, Formed, FirstIll, Parsed}
 use Rattle.sheet.specs.Readings.{symbols-of, told, OneReading}
 use Rattle.sheet.proofs.Shown.{Forms, forms, shown-long}
 use Rattle.sheet.proofs.Steps.{both}
@@ -60,7 +60,7 @@ same-number (w ∷ x ∷ []) u v p q = absurd (omega (arith, shown-long (w ∷ x
 same-number (w ∷ x ∷ y ∷ []) u v p q = absurd (omega (arith, shown-long (w ∷ x ∷ y ∷ []) u p))
 same-number (w ∷ x ∷ y ∷ z ∷ cs) u v p q = same-forms w x y z u v (forms w x y z u p) (forms w x y z v q)
 
-same-numbers : (cs us vs : List ℕ) → length us ≡ length vs → Show cs us → Show cs vs → us ≡ vs
+same-numbers : (cs us vs : List ℕ) → length us ≡ length vs → BeginWith cs us → BeginWith cs vs → us ≡ vs
 same-numbers cs [] [] l p q = refl
 same-numbers cs [] (v ∷ vs) l p q = absurd (omega arith)
 same-numbers cs (u ∷ us) [] l p q = absurd (omega arith)
@@ -111,19 +111,19 @@ lent-symbols cs (Read page) h = refl
 lent-symbols cs (Same one other) h = refl
 lent-symbols cs (Save page symbols) h = h .0
 
-same-line : (cs : List ℕ) (l m : Line) → verb-of l ≡ verb-of m → Show cs (numbers l) → Show cs (numbers m) → Lends cs l → Lends cs m → told (Ok l) ≡ told (Ok m)
+same-line : (cs : List ℕ) (l m : Line) → verb-of l ≡ verb-of m → BeginWith cs (numbers l) → BeginWith cs (numbers m) → Lends cs l → Lends cs m → told (Ok l) ≡ told (Ok m)
 same-line cs l m e p q f g =
     let ns : numbers l ≡ numbers m = same-numbers cs (numbers l) (numbers m) (counted-numbers l ∙ ap wants e ∙ sym (counted-numbers m)) p q in
     let ss : symbols-of l ≡ symbols-of m = lent-symbols cs l f ∙ ap (λ v. lent v cs) e ∙ sym (lent-symbols cs m g) in
     λ i. Ok (e i, ns i, ss i)
 
 -- the fields that show numbers are well formed
-shown-fields : (cs vs : List ℕ) → Show cs vs → (k : ℕ) → k < length vs → WellFormed (field-at cs k)
+shown-fields : (cs vs : List ℕ) → BeginWith cs vs → (k : ℕ) → k < length vs → WellFormed (field-at cs k)
 shown-fields cs [] p k l = absurd (omega arith)
 shown-fields cs (v ∷ vs) p k l = both cs (drop 4 cs) (length vs) v (p .0) refl (shown-fields (drop 4 cs) vs (p .1)) k (omega arith)
 
 -- every field of a line that is read is well formed
-all-fields : (cs : List ℕ) (l : Line) → Counted (verb-of l) (length cs) → Show cs (numbers l) → Lends cs l → AllShow cs
+all-fields : (cs : List ℕ) (l : Line) → Counted (verb-of l) (length cs) → BeginWith cs (numbers l) → Lends cs l → AllWellFormed cs
 all-fields cs (Card alphabet code q n f pages) counted shown lends k lt = shown-fields cs (alphabet ∷ code ∷ q ∷ n ∷ f ∷ pages ∷ []) shown k (omega (arith, counted .0, counted .1))
 all-fields cs (Floor page cell floor) counted shown lends k lt = shown-fields cs (page ∷ cell ∷ floor ∷ []) shown k (omega (arith, counted .0, counted .1))
 all-fields cs (Worn page cell floor) counted shown lends k lt = shown-fields cs (page ∷ cell ∷ floor ∷ []) shown k (omega (arith, counted .0, counted .1))

@@ -14,7 +14,7 @@ use Rattle.sheet.specs.declared.verbs.Verb.{Verb}
 use Rattle.sheet.specs.declared.parsing.Line.{Line}
 use Rattle.sheet.specs.Fields.{Shows, WellFormed, IllFormed}
 use Rattle.sheet.specs.Verbs.{name, Counted}
-use Rattle.sheet.specs.Parsing.{verb-of, numbers, field-at, Show, AllShow, Lends, Formed, FirstIll, Parsed}
+use Rattle.sheet.specs.Parsing.{verb-of, numbers, field-at, BeginWith, AllWellFormed, Lends, Formed, FirstIll, Parsed}
 use Rattle.sheet.specs.Steps.{IllWithin, LineRead}
 
 -- the next field is ill formed
@@ -86,7 +86,7 @@ said line columns v (Ok l) within h counted read = (
     named = h .0 ∙ ap name (sym (read .0));
     counted = subst (λ u. Counted u (length (drop 4 line))) (sym (read .0)) (subst (λ k. Counted v (length k)) (h .1) counted);
   },
-  subst (λ k. Show k (numbers l)) (h .1) (read .1),
+  subst (λ k. BeginWith k (numbers l)) (h .1) (read .1),
   subst (λ k. Lends k l) (h .1) (read .2),
 )
 said line columns v (Err e) within h counted w =

@@ -40,13 +40,13 @@ abbrev pub field-at : List ℕ → ℕ → List ℕ
 field-at columns k = take 4 (drop (4 * k) columns)
 
 -- the columns begin with the fields of these numbers
-abbrev pub Show : List ℕ → List ℕ → Type 0
-Show columns [] = Unit {0}
-Show columns (v ∷ vs) = Shows (take 4 columns) v × Show (drop 4 columns) vs
+abbrev pub BeginWith : List ℕ → List ℕ → Type 0
+BeginWith columns [] = Unit {0}
+BeginWith columns (v ∷ vs) = Shows (take 4 columns) v × BeginWith (drop 4 columns) vs
 
 -- every field of the columns is well formed
-abbrev pub AllShow : List ℕ → Type 0
-AllShow columns = (k : ℕ) → 4 * k < length columns → WellFormed (field-at columns k)
+abbrev pub AllWellFormed : List ℕ → Type 0
+AllWellFormed columns = (k : ℕ) → 4 * k < length columns → WellFormed (field-at columns k)
 
 -- a save borrows the columns after its page, which are fields throughout
 abbrev pub Lends : List ℕ → Line → Type 0
@@ -57,7 +57,7 @@ Lends columns (Move page cell level) = Unit {0}
 Lends columns Open = Unit {0}
 Lends columns (Read page) = Unit {0}
 Lends columns (Same one other) = Unit {0}
-Lends columns (Save page symbols) = (symbols .now ≡ drop 4 columns) × AllShow (symbols .now)
+Lends columns (Save page symbols) = (symbols .now ≡ drop 4 columns) × AllWellFormed (symbols .now)
 
 -- the line is not too long, it begins with the verb, and whole fields follow, as many as the verb takes
 pub record Formed (line : List ℕ) (v : Verb) : Type 0 where
@@ -75,7 +75,7 @@ pub record FirstIll (columns : List ℕ) (column : ℕ) : Type 0 where
 
 -- what a line says, or the first thing that is wrong with it
 abbrev pub Parsed : List ℕ → Result Line Refusal → Type 0
-Parsed line (Ok l) = Formed line (verb-of l) × Show (drop 4 line) (numbers l) × Lends (drop 4 line) l
+Parsed line (Ok l) = Formed line (verb-of l) × BeginWith (drop 4 line) (numbers l) × Lends (drop 4 line) l
 Parsed line (Err LineLength) = 1028 < length line
 Parsed line (Err UnknownVerb) = (length line ≤ 1028) × ((v : Verb) → take 4 line ≡ name v → ⊥)
 Parsed line (Err (FieldCount bytes)) = (bytes ≡ length line) × (length line ≤ 1028) × ((v : Verb) × (take 4 line ≡ name v) × (Counted v (length (drop 4 line)) → ⊥))

@@ -11,7 +11,7 @@ use Rattle.sheet.specs.declared.refusals.Refusal.the-variants.{IllFormedField}
 use Rattle.sheet.specs.declared.verbs.Verb.{Verb}
 use Rattle.sheet.specs.declared.parsing.Line.{Line}
 use Rattle.sheet.specs.Fields.{Shows, WellFormed, IllFormed}
-use Rattle.sheet.specs.Parsing.{verb-of, numbers, field-at, Show, AllShow, Lends}
+use Rattle.sheet.specs.Parsing.{verb-of, numbers, field-at, BeginWith, AllWellFormed, Lends}
 
 -- the number of the line's field of this index, and the columns after it
 abbrev pub Next : List ℕ → (index : ℕ) → Result (ℕ × RefT (List ℕ)) Refusal → Type 0
@@ -28,15 +28,15 @@ pub record IllWithin (bytes : ℕ) (columns : List ℕ) (from : ℕ) (e : Refusa
 
 -- a page, a cell and a floor or level
 abbrev pub SpotRead : List ℕ → Result (ℕ × ℕ × ℕ) Refusal → Type 0
-SpotRead columns (Ok p) = Show columns (p .0 ∷ p .1 ∷ p .2 ∷ [])
+SpotRead columns (Ok p) = BeginWith columns (p .0 ∷ p .1 ∷ p .2 ∷ [])
 SpotRead columns (Err e) = IllWithin 12 columns 0 e
 
 -- the symbols after a save's page
 abbrev pub SymbolsRead : List ℕ → Result (Unit {0}) Refusal → Type 0
-SymbolsRead columns (Ok granted) = AllShow columns
+SymbolsRead columns (Ok granted) = AllWellFormed columns
 SymbolsRead columns (Err e) = IllWithin (length columns) columns 1 e
 
 -- a line of this verb, from so many bytes of columns
 abbrev pub LineRead : Verb → (bytes : ℕ) → List ℕ → Result Line Refusal → Type 0
-LineRead v bytes columns (Ok l) = (verb-of l ≡ v) × Show columns (numbers l) × Lends columns l
+LineRead v bytes columns (Ok l) = (verb-of l ≡ v) × BeginWith columns (numbers l) × Lends columns l
 LineRead v bytes columns (Err e) = IllWithin bytes columns 0 e
