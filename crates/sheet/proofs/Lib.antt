@@ -2,3 +2,4 @@ pub mod Shown
 pub mod Steps
 pub mod Cuts
 pub mod Readings
+pub mod Symbols
