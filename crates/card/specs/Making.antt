@@ -37,6 +37,7 @@ RefusedCard code allowance pages (NoLevel v) = ⊥
 RefusedCard code allowance pages (Blank p) = ⊥
 RefusedCard code allowance pages (BelowFloor c) = ⊥
 
+-- want of memory is told only of a card that is not refused
 abbrev pub NotMade : BlockCode → (allowance pages : ℕ) → Fault → Type 0
 NotMade code allowance pages (Asked refusal) = RefusedCard code allowance pages refusal
-NotMade code allowance pages Memory = Unit {0}
+NotMade code allowance pages Memory = Pages pages × (allowance ≤ code .radius)

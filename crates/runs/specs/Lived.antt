@@ -11,6 +11,7 @@ use Rattle.ledger.specs.Promise.{Promise}
 use Rattle.card.specs.declared.cards.Bench.{Bench}
 use Rattle.card.specs.declared.cards.Service.{Service}
 use Rattle.card.specs.History.{made-from, BenchShows, ServiceShows}
+use Rattle.card.specs.Making.{Pages}
 use Rattle.runs.specs.declared.requests.BenchFloor.{BenchFloor}
 use Rattle.runs.specs.declared.requests.Request.{Request}
 use Rattle.runs.specs.declared.replies.Reply.{Reply}
@@ -31,6 +32,7 @@ ContinuesAll meaning s calls replies s′ =
 
 -- the floors and calls, each with its answer, lead from a new card of this code to a ledger that the card shows; and every run of such a card keeps the promise
 pub record Lived {C : Type 0} (meaning : C → BlockCode) (code : C) (allowance pages : ℕ) (floors : List BenchFloor) (calls : List Request) (life : Life C) : Type 0 where
+  pub pages-there : Pages pages
   pub floors-answered : vec-len (life .bench) ≡ length floors
   pub calls-answered : vec-len (life .replies) ≡ length calls
   pub ledger-of : List ledger.Page

@@ -11,6 +11,7 @@ returns g c =
     let opened = c .open-card .ensures .opens _ _ (benched .0) (benched .1) (benched .2) in
     let served = calls .1 _ _ _ (benched .0) (opened .0) (opened .1) in
     record {
+      pages-there = made .pages-there;
       floors-answered = floors .0;
       calls-answered = calls .0;
       ledger-of = served .0;
