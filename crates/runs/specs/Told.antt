@@ -33,3 +33,11 @@ abbrev pub told : {Q K : Type 0} (call : Q → K) → List (K × Answer) → Lis
 told call before qs [] = before
 told call before [] (r ∷ rs) = before
 told call before (q ∷ qs) (r ∷ rs) = told call ((call q, answer-of r) ∷ before) qs rs
+
+-- only a read wants memory, for its buffer
+abbrev pub WantsMemory : Request → Type 0
+WantsMemory (Save page symbols) = ⊥
+WantsMemory (Read page room) = Unit {0}
+WantsMemory (Compare one other) = ⊥
+WantsMemory (Wear page cell level) = ⊥
+WantsMemory (Drift page cell level) = ⊥

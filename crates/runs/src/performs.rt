@@ -2,7 +2,7 @@
 ghost use mathlib.Core.Path.{_≡_};
 ghost use Rattle.std.specs.Results.{Cases};
 ghost use Rattle.card.specs.History.{BenchContinues, Continues};
-ghost use Rattle.runs.specs.Told.{bench-call, call-of, answer-of};
+ghost use Rattle.runs.specs.Told.{bench-call, call-of, answer-of, WantsMemory};
 use super::replies::Reply;
 use super::requests::BenchFloor;
 use super::requests::Request;
@@ -28,7 +28,7 @@ pub fn perform<C: Code>(
     heap: Global,
     request: Request<'_>,
 ) -> Result<Reply, AllocError>
-    ensures { λ r. ⌜ Cases r (λ a. Continues (C·Code .meaning) (now (card .entry)) (call-of (request .entry)) (answer-of a) (now (card .exit))) (λ _. now (card .exit) ≡ now (card .entry)) ⌝ }
+    ensures { λ r. ⌜ Cases r (λ a. Continues (C·Code .meaning) (now (card .entry)) (call-of (request .entry)) (answer-of a) (now (card .exit))) (λ _. WantsMemory (request .entry) × (now (card .exit) ≡ now (card .entry))) ⌝ }
 {
     match request {
         Request::Save { page, symbols } => match card.save(page, symbols) {
