@@ -73,6 +73,12 @@ module _ (made : Made) (laws : CodeLaws (made .code)) where
   unread-is-far l p m changed a f (Unreadable.is-blank _ none) = absurd (never-some m (sym none ∙ f .message))
   unread-is-far l p m changed a f (Unreadable.too-far _ _ _ far) = (refl, far)
 
+  pub unread-only-if-too-far : (l : List Page) (p n number layer place : ℕ) (m : List ℕ) (changed : List Bool) (l′ : List Page) → n ≡ length (rest (made .code .information)) → Follows made laws p l m changed
+      → Step made l (read p n) (refused number layer place) l′ → (refused number layer place ≡ refused 11 1 0) × AllFar (made .code) (page-of made l p .levels)
+  unread-only-if-too-far l p n number layer place m changed l′ room f (read-no-page _ _ _ high) = absurd (omega (arith, f .there))
+  unread-only-if-too-far l p n number layer place m changed l′ room f (read-wrong-room _ _ _ _ wrong) = absurd (wrong room)
+  unread-only-if-too-far l p n number layer place m changed l′ room f (not-read _ _ _ _ _ _ un) = unread-is-far l p m changed (refused number layer place) f un
+
   pub equal-levels-read-alike : (l : List Page) (p r n : ℕ) (m k : List ℕ) (c d : List Bool) (a b : Answer) (l′ l″ : List Page) → Follows made laws p l m c → Follows made laws r l k d
       → page-of made l p .levels ≡ page-of made l r .levels → n ≡ length (rest (made .code .information)) → Step made l (read p n) a l′ → Step made l (read r n) b l″ → a ≡ b
   equal-levels-read-alike l p r n m k c d a b l′ l″ f g same room (read-no-page _ _ _ high) step = absurd (omega (arith, f .there))
@@ -94,6 +100,9 @@ module _ (made : Made) (laws : CodeLaws (made .code)) where
   read-readable : (l : List Page) (p n c : ℕ) (m : List ℕ) (l′ : List Page) → Step made l (read p n) (found c m) l′ → Readable made l p c m
   read-readable l p n c m l′ (not-read _ _ _ _ _ _ un) = elim un [ ]
   read-readable l p n c m l′ (is-read _ _ _ _ _ _ readable) = readable
+
+  pub found-as-levels-read : (l : List Page) (p n c : ℕ) (m : List ℕ) (l′ : List Page) → Step made l (read p n) (found c m) l′ → Reads (made .code) (page-of made l p .levels) c m
+  found-as-levels-read l p n c m l′ step = read-readable l p n c m l′ step .reads
 
   -- what two pages that can be read compare as
   readable-compare : (l : List Page) (p r c d : ℕ) (m k : List ℕ) → Readable made l p c m → Readable made l r d k

@@ -5,9 +5,9 @@ use Rattle.code.specs.Laws.{CodeLaws}
 use Rattle.ledger.specs.Ledger.{Made, Page, BenchCall, Call, Answer, InService}
 use Rattle.ledger.specs.Promise.{SavePromise, ReadPromise, ChangePromise, BenchPromise, PromiseStands}
 use Rattle.ledger.proofs.Shapes.{Kept, bench-kept, service-kept}
-use Rattle.ledger.proofs.Saves.{refused-only-if-too-far, granted-only-if-near, never-refused-with-few-lost, forced-least, forced-within-allowance}
+use Rattle.ledger.proofs.Saves.{refused-only-if-too-far, granted-only-if-near, refused-with-fewest, writes-with-lowest-mask, never-refused-with-few-lost, forced-least, forced-within-allowance}
 use Rattle.ledger.proofs.Runs.{follows, blank-until-saved, saved-or-never}
-use Rattle.ledger.proofs.ReadBack.{read-at-once, last-message-is-read, blank-is-refused, equal-levels-read-alike, compared-as-read, compared-if-read}
+use Rattle.ledger.proofs.ReadBack.{read-at-once, last-message-is-read, blank-is-refused, found-as-levels-read, unread-only-if-too-far, equal-levels-read-alike, compared-as-read, compared-if-read}
 use Rattle.ledger.proofs.Changes.{refused-changes-nothing, read-changes-nothing, compare-changes-nothing, other-pages-keep, floors-never-fall, save-keeps-floors, wear-sets, drift-sets, wear-granted, drift-granted, drift-refused, bench-floor-sets, bench-floor-granted, bench-refused-changes-nothing, bench-other-pages-keep}
 use Rattle.ledger.proofs.Answered.{answered, bench-answered}
 use Rattle.ledger.proofs.OneWay.{answered-one-way, bench-answered-one-way}
@@ -17,9 +17,11 @@ module _ (made : Made) (laws : CodeLaws (made .code)) where
   saves-stand bench past l p m small kept = record {
     refused-only-if-too-far = λ l′ n a b low message step. refused-only-if-too-far made laws l p m n a b l′ low message step;
     granted-only-if-near = λ l′ mask forced step far. granted-only-if-near made laws l p m mask forced l′ kept step far;
+    refused-with-fewest = λ l′ n a b low message step. refused-with-fewest made laws l p m n a b l′ low message step;
     never-refused-with-few-lost = λ l′ n a b low message few step. never-refused-with-few-lost made laws l p m n a b l′ low message few step;
     forced-least = λ l′ mask forced step. forced-least made laws l p m mask forced l′ kept step;
     forced-within-allowance = λ l′ mask forced step. forced-within-allowance made laws l p m mask forced l′ step;
+    writes-with-lowest-mask = λ l′ mask forced step. writes-with-lowest-mask made laws l p m mask forced l′ kept step;
     read-at-once = λ l′ l″ mask forced n a room s t. read-at-once made laws l p m mask forced n l′ l″ a small kept room s t;
   }
 
@@ -29,6 +31,9 @@ module _ (made : Made) (laws : CodeLaws (made .code)) where
     blank-until-saved = λ l′ p n a low room never step. blank-is-refused made laws l p n a l′ low room (blank-until-saved made laws bench past l p run never) step;
     saved-or-never = λ p. saved-or-never made laws bench past l p run;
     ledger-has-them = λ p m changed last. let f = follows made laws bench p past l m changed last in (f .message, f .spent);
+    found-as-levels-read = λ l′ p n c m step. found-as-levels-read made laws l p n c m l′ step;
+    unread-only-if-too-far = λ l′ p n number layer place m changed room last step.
+        unread-only-if-too-far made laws l p n number layer place m changed l′ room (follows made laws bench p past l m changed last) step;
     equal-levels-read-alike = λ l′ l″ p r n m k c d a b one other same room s t.
         equal-levels-read-alike made laws l p r n m k c d a b l′ l″ (follows made laws bench p past l m c one) (follows made laws bench r past l k d other) same room s t;
     compared-as-read = λ l′ l″ l‴ p r n same c d m k room step one other. compared-as-read made laws l p r n same c d m k l′ l″ l‴ step one other;

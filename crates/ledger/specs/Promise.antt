@@ -8,9 +8,11 @@ use Prim.Native.Nat.{ℕ, _+_, _<_, _≤_, max}
 use lib.ListN.{length, set}
 use Rattle.std.specs.declared.option.Option.the-variants.{Some}
 use Rattle.code.specs.Words.{Message, rest}
+use Rattle.code.specs.Calls.{AllFar}
 use Rattle.code.specs.Laws.{CodeLaws}
-use Rattle.masking.specs.Floors.{Allowed, AtLeast, FewLost}
-use Rattle.masking.specs.Writing.{Nearest}
+use Rattle.masking.specs.Floors.{Allowed, AtLeast, FewLost, Fewest}
+use Rattle.masking.specs.Writing.{Nearest, Writes}
+use Rattle.masking.specs.Reading.{Reads}
 use Rattle.ledger.specs.Ledger.{Made, Page, page-of, floor-at, level-at, Spot, BenchCall, floor, Call, save, read, compare, wear, drift, Answer, done, stored, found, compared, refused, BenchStep, Step, AtBench, InService}
 use Rattle.ledger.specs.Runs.{marked, never-granted, LastSaved}
 
@@ -29,6 +31,9 @@ pub record SavePromise (made : Made) (bench : List (BenchCall × Answer)) (past 
       → AtLeast (made .code) (page-of made l p .floors) m (made .allowance + 1)
   pub granted-only-if-near : (l′ : List Page) (mask forced : ℕ) → Step made l (save p m) (stored mask forced) l′
       → AtLeast (made .code) (page-of made l p .floors) m (made .allowance + 1) → ⊥
+  -- it is refused with the fewest cells that any mask leaves below their floors
+  pub refused-with-fewest : (l′ : List Page) (n a b : ℕ) → p < made .pages → Message (made .code) m → Step made l (save p m) (refused n a b) l′
+      → (mask : ℕ) × (carrier : List ℕ) × Fewest (made .code) (page-of made l p .floors) m mask b carrier × (refused n a b ≡ refused 9 2 b)
   -- and never while the floors take few levels away
   pub never-refused-with-few-lost : (l′ : List Page) (n a b : ℕ) → p < made .pages → Message (made .code) m
       → FewLost (made .code) (page-of made l p .floors) (made .allowance) → Step made l (save p m) (refused n a b) l′ → ⊥
@@ -36,6 +41,9 @@ pub record SavePromise (made : Made) (bench : List (BenchCall × Answer)) (past 
   pub forced-least : (l′ : List Page) (mask forced : ℕ) → Step made l (save p m) (stored mask forced) l′
       → Nearest (made .code) (page-of made l p .floors) m mask forced (page-of made l′ p .levels)
   pub forced-within-allowance : (l′ : List Page) (mask forced : ℕ) → Step made l (save p m) (stored mask forced) l′ → forced ≤ made .allowance
+  -- the mask is the lowest of those that leave the fewest cells below their floors, and those cells are written at their floors
+  pub writes-with-lowest-mask : (l′ : List Page) (mask forced : ℕ) → Step made l (save p m) (stored mask forced) l′
+      → Writes (made .code) (page-of made l p .floors) (made .allowance) m mask forced (page-of made l′ p .levels)
   -- what was just saved is read
   pub read-at-once : (l′ l″ : List Page) (mask forced n : ℕ) (a : Answer) → n ≡ length (rest (made .code .information))
       → Step made l (save p m) (stored mask forced) l′ → Step made l′ (read p n) a l″ → a ≡ found forced m
@@ -52,6 +60,11 @@ pub record ReadPromise (made : Made) (bench : List (BenchCall × Answer)) (past 
   pub saved-or-never : (p : ℕ) → (never-granted p past ≡ true) ⊎ ((m : List ℕ) × (changed : List Bool) × LastSaved made bench p past l m changed)
   -- the message and the spent cells that the ledger keeps are those of the run
   pub ledger-has-them : (p : ℕ) (m : List ℕ) (changed : List Bool) → LastSaved made bench p past l m changed → (page-of made l p .message ≡ Some m) × (page-of made l p .spent ≡ changed)
+  -- a read finds the message and the count of the code word within the radius of the levels
+  pub found-as-levels-read : (l′ : List Page) (p n c : ℕ) (m : List ℕ) → Step made l (read p n) (found c m) l′ → Reads (made .code) (page-of made l p .levels) c m
+  -- a page that has taken a message is not read only if no code word is so near
+  pub unread-only-if-too-far : (l′ : List Page) (p n number layer place : ℕ) (m : List ℕ) (changed : List Bool) → n ≡ length (rest (made .code .information)) → LastSaved made bench p past l m changed
+      → Step made l (read p n) (refused number layer place) l′ → (refused number layer place ≡ refused 11 1 0) × AllFar (made .code) (page-of made l p .levels)
   -- pages of equal levels that have each taken a message read alike
   pub equal-levels-read-alike : (l′ l″ : List Page) (p r n : ℕ) (m k : List ℕ) (c d : List Bool) (a b : Answer) → LastSaved made bench p past l m c → LastSaved made bench r past l k d
       → page-of made l p .levels ≡ page-of made l r .levels → n ≡ length (rest (made .code .information)) → Step made l (read p n) a l′ → Step made l (read r n) b l″ → a ≡ b
