@@ -2,7 +2,7 @@
 use mathlib.Core.Path.{_≡_, refl, ap, ap₂, sym, _∙_}
 use mathlib.Core.Logic.{⊎-elim}
 use mathlib.Core.List.{List}
-use Prim.Native.Nat.{ℕ}
+use Prim.Native.Nat.{ℕ, _≤_}
 use native.Mathlib.Omega.{arith}
 use lib.ListN.{set}
 use Rattle.std.proofs.shelf.Tests.{cases-order}
@@ -14,6 +14,7 @@ use Rattle.masking.specs.Floors.{Fewest, unmet, raised}
 use Rattle.masking.proofs.Nearness.{one-fewest}
 use Rattle.masking.proofs.Readings.{one-reading}
 use Rattle.ledger.specs.Ledger.{Made, Page, page-of, with-message, BenchCall, Call, save, read, compare, wear, drift, Answer, refused, Spot, NoSpot, Unreadable, Readable, BenchStep, floored, not-floored, Step, save-no-page, save-wrong-length, save-no-symbol, save-no-mask, saved, read-no-page, read-wrong-room, not-read, is-read, not-compared, other-not-compared, alike, unlike, worn, not-worn, drifted, no-drift, below-its-floor}
+use Rattle.ledger.specs.Promise.{page-named}
 
 pub never-some : (m : List ℕ) → None ≡ Some m → ⊥
 never-some m e = let z : _≡_ {A = ℕ} 0 1 = cc in omega arith
@@ -156,6 +157,13 @@ module _ (made : Made) (laws : CodeLaws (made .code)) where
   answered-one-way l l′ l″ (compare p r) a b s t = one-compare l p r l′ l″ a b s t
   answered-one-way l l′ l″ (wear p c v) a b s t = one-wear l p c v l′ l″ a b s t
   answered-one-way l l′ l″ (drift p c v) a b s t = one-drift l p c v l′ l″ a b s t
+
+  pub no-page-refused : (l : List Page) (call : Call) (a : Answer) (l′ : List Page) → made .pages ≤ page-named call → Step made l call a l′ → a ≡ refused 4 2 (page-named call)
+  no-page-refused l (save p m) a l′ high step = one-save l p m l′ l a (refused 4 2 p) step (save-no-page l p m high) .0
+  no-page-refused l (read p n) a l′ high step = one-read l p n l′ l a (refused 4 2 p) step (read-no-page l p n high) .0
+  no-page-refused l (compare p r) a l′ high step = one-compare l p r l′ l a (refused 4 2 p) step (not-compared l p r (refused 4 2 p) (Unreadable.no-page high)) .0
+  no-page-refused l (wear p c v) a l′ high step = one-wear l p c v l′ l a (refused 4 2 p) step (not-worn l p c v (refused 4 2 p) (NoSpot.no-page high)) .0
+  no-page-refused l (drift p c v) a l′ high step = one-drift l p c v l′ l a (refused 4 2 p) step (no-drift l p c v (refused 4 2 p) (NoSpot.no-page high)) .0
 
   pub bench-answered-one-way : (l : List Page) (call : BenchCall) (l′ l″ : List Page) (a b : Answer) → BenchStep made l call a l′ → BenchStep made l call b l″ → (a ≡ b) × (l′ ≡ l″)
   bench-answered-one-way l call l′ l″ a b (floored _ _ _ _ _) (floored _ _ _ _ _) = (refl, refl)

@@ -13,7 +13,7 @@ use Rattle.code.specs.Laws.{CodeLaws}
 use Rattle.code.proofs.Differences.{cases-word}
 use Rattle.masking.specs.Reading.{Reads}
 use Rattle.masking.proofs.Masks.{written-distance}
-use Rattle.ledger.specs.Ledger.{Made, Page, page-of, with-message, save, read, compare, Answer, stored, found, compared, refused, Unreadable, Readable, Step, saved, read-no-page, read-wrong-room, not-read, is-read, alike, unlike}
+use Rattle.ledger.specs.Ledger.{Made, Page, page-of, with-message, save, read, compare, Answer, stored, found, compared, refused, Unreadable, Readable, Step, saved, read-no-page, read-wrong-room, not-read, is-read, not-compared, other-not-compared, alike, unlike}
 use Rattle.ledger.specs.Runs.{marked}
 use Rattle.ledger.proofs.Shapes.{Kept, set-page, step-kept}
 use Rattle.ledger.proofs.OneWay.{never-some, one-read, one-compare}
@@ -131,3 +131,15 @@ module _ (made : Made) (laws : CodeLaws (made .code)) where
       (λ s. (1, one-compare made laws l p r l′ l a (compared 1) step (s .1) .0))
       (λ s. (0, one-compare made laws l p r l′ l a (compared 0) step (s .1) .0))
       (readable-compare l p r c d m k (read-readable l p n c m l″ one) (read-readable l r n d k l‴ other))
+
+  -- a page that cannot be read is refused to a read
+  unreadable-refused : (l : List Page) (p n : ℕ) (a : Answer) → n ≡ length (rest (made .code .information)) → Unreadable made l p a → Step made l (read p n) a l
+  unreadable-refused l p n a room (Unreadable.no-page high) = read-no-page l p n high
+  unreadable-refused l p n a room (Unreadable.is-blank low none) = not-read l p n _ low room (Unreadable.is-blank low none)
+  unreadable-refused l p n a room (Unreadable.too-far m low taken far) = not-read l p n _ low room (Unreadable.too-far m low taken far)
+
+  pub compare-refused-as-read : (l : List Page) (p r n number layer place : ℕ) (l′ : List Page) → n ≡ length (rest (made .code .information)) → Step made l (compare p r) (refused number layer place) l′
+      → Step made l (read p n) (refused number layer place) l ⊎ ((c : ℕ) × (m : List ℕ) × Step made l (read p n) (found c m) l × Step made l (read r n) (refused number layer place) l)
+  compare-refused-as-read l p r n number layer place l′ room (not-compared _ _ _ _ un) = inl (unreadable-refused l p n (refused number layer place) room un)
+  compare-refused-as-read l p r n number layer place l′ room (other-not-compared _ _ _ c m _ readable un) =
+      inr (c, m, is-read l p n c m room readable, unreadable-refused l r n (refused number layer place) room un)

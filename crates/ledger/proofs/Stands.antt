@@ -7,14 +7,14 @@ use Rattle.ledger.specs.Promise.{SavePromise, ReadPromise, ChangePromise, Benc
 use Rattle.ledger.proofs.Shapes.{Kept, bench-kept, service-kept}
 use Rattle.ledger.proofs.Saves.{refused-only-if-too-far, granted-only-if-near, refused-with-fewest, writes-with-lowest-mask, never-refused-with-few-lost, forced-least, forced-within-allowance}
 use Rattle.ledger.proofs.Runs.{follows, blank-until-saved, saved-or-never}
-use Rattle.ledger.proofs.ReadBack.{read-at-once, last-message-is-read, blank-is-refused, found-as-levels-read, unread-only-if-too-far, equal-levels-read-alike, compared-as-read, compared-if-read}
+use Rattle.ledger.proofs.ReadBack.{read-at-once, last-message-is-read, blank-is-refused, found-as-levels-read, unread-only-if-too-far, equal-levels-read-alike, compared-as-read, compared-if-read, compare-refused-as-read}
 use Rattle.ledger.proofs.Changes.{refused-changes-nothing, read-changes-nothing, compare-changes-nothing, other-pages-keep, floors-never-fall, save-keeps-floors, wear-sets, drift-sets, wear-granted, drift-granted, drift-refused, bench-floor-sets, bench-floor-granted, bench-refused-changes-nothing, bench-other-pages-keep}
 use Rattle.ledger.proofs.Answered.{answered, bench-answered}
-use Rattle.ledger.proofs.OneWay.{answered-one-way, bench-answered-one-way}
+use Rattle.ledger.proofs.OneWay.{answered-one-way, no-page-refused, bench-answered-one-way}
 
 module _ (made : Made) (laws : CodeLaws (made .code)) where
-  saves-stand : (bench : List (BenchCall × Answer)) (past : List (Call × Answer)) (l : List Page) (p : ℕ) (m : List ℕ) → made .allowance ≤ made .code .radius → Kept made l → SavePromise made bench past l p m
-  saves-stand bench past l p m small kept = record {
+  saves-stand : (l : List Page) (p : ℕ) (m : List ℕ) → made .allowance ≤ made .code .radius → Kept made l → SavePromise made l p m
+  saves-stand l p m small kept = record {
     refused-only-if-too-far = λ l′ n a b low message step. refused-only-if-too-far made laws l p m n a b l′ low message step;
     granted-only-if-near = λ l′ mask forced step far. granted-only-if-near made laws l p m mask forced l′ kept step far;
     refused-with-fewest = λ l′ n a b low message step. refused-with-fewest made laws l p m n a b l′ low message step;
@@ -38,6 +38,7 @@ module _ (made : Made) (laws : CodeLaws (made .code)) where
         equal-levels-read-alike made laws l p r n m k c d a b l′ l″ (follows made laws bench p past l m c one) (follows made laws bench r past l k d other) same room s t;
     compared-as-read = λ l′ l″ l‴ p r n same c d m k room step one other. compared-as-read made laws l p r n same c d m k l′ l″ l‴ step one other;
     compared-if-read = λ l′ l″ l‴ p r n c d m k a room one other step. compared-if-read made laws l p r n c d m k a l′ l″ l‴ one other step;
+    compare-refused-as-read = λ l′ p r n number layer place room step. compare-refused-as-read made laws l p r n number layer place l′ room step;
   }
 
   changes-stand : (l : List Page) → Kept made l → ChangePromise made l
@@ -53,6 +54,7 @@ module _ (made : Made) (laws : CodeLaws (made .code)) where
     wear-granted = λ l′ p c v a spot step. wear-granted made laws l p c v a l′ spot step;
     drift-granted = λ l′ p c v a spot above step. drift-granted made laws l p c v a l′ spot above step;
     drift-refused = λ l′ p c v a spot under step. drift-refused made laws l p c v a l′ spot under step;
+    no-page-refused = λ l′ call a high step. no-page-refused made laws l call a l′ high step;
     always-allowed = λ p. kept .sound p .levels-allowed;
     answered = λ call. answered made laws l call kept;
     answered-one-way = λ l′ l″ call a b s t. answered-one-way made laws l l′ l″ call a b s t;
@@ -71,7 +73,7 @@ module _ (made : Made) (laws : CodeLaws (made .code)) where
 
 pub promise : PromiseStands
 promise made laws small = record {
-  saves = λ bench past l p m run. saves-stand made laws bench past l p m small (service-kept made laws bench past l run);
+  saves = λ bench past l p m run. saves-stand made laws l p m small (service-kept made laws bench past l run);
   reads = λ bench past l run. reads-stand made laws bench past l run;
   changes = λ bench past l run. changes-stand made laws l (service-kept made laws bench past l run);
   at-bench = λ past l run. bench-stands made laws l (bench-kept made laws past l run);

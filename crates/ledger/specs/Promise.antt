@@ -16,7 +16,7 @@ use Rattle.masking.specs.Reading.{Reads}
 use Rattle.ledger.specs.Ledger.{Made, Page, page-of, floor-at, level-at, Spot, BenchCall, floor, Call, save, read, compare, wear, drift, Answer, done, stored, found, compared, refused, BenchStep, Step, AtBench, InService}
 use Rattle.ledger.specs.Runs.{marked, never-granted, LastSaved}
 
--- the page that a call may change
+-- the page that a call names, for a comparison its first
 abbrev pub page-named : Call → ℕ
 page-named (save p m) = p
 page-named (read p n) = p
@@ -25,7 +25,7 @@ page-named (wear p c v) = p
 page-named (drift p c v) = p
 
 -- saves on a page after any run
-pub record SavePromise (made : Made) (bench : List (BenchCall × Answer)) (past : List (Call × Answer)) (l : List Page) (p : ℕ) (m : List ℕ) : Type 0 where
+pub record SavePromise (made : Made) (l : List Page) (p : ℕ) (m : List ℕ) : Type 0 where
   -- a well-formed save is refused exactly when every allowed word differs from every code word carrying the message in more cells than the allowance
   pub refused-only-if-too-far : (l′ : List Page) (n a b : ℕ) → p < made .pages → Message (made .code) m → Step made l (save p m) (refused n a b) l′
       → AtLeast (made .code) (page-of made l p .floors) m (made .allowance + 1)
@@ -73,6 +73,9 @@ pub record ReadPromise (made : Made) (bench : List (BenchCall × Answer)) (past 
       → Step made l (compare p r) (compared same) l′ → Step made l (read p n) (found c m) l″ → Step made l (read r n) (found d k) l‴ → ((m ≡ k) × (same ≡ 1)) ⊎ ((m ≡ k → ⊥) × (same ≡ 0))
   pub compared-if-read : (l′ l″ l‴ : List Page) (p r n c d : ℕ) (m k : List ℕ) (a : Answer) → n ≡ length (rest (made .code .information))
       → Step made l (read p n) (found c m) l″ → Step made l (read r n) (found d k) l‴ → Step made l (compare p r) a l′ → (same : ℕ) × (a ≡ compared same)
+  -- a comparison is refused as a read of its first page is, and else as one of its second
+  pub compare-refused-as-read : (l′ : List Page) (p r n number layer place : ℕ) → n ≡ length (rest (made .code .information)) → Step made l (compare p r) (refused number layer place) l′
+      → Step made l (read p n) (refused number layer place) l ⊎ ((c : ℕ) × (m : List ℕ) × Step made l (read p n) (found c m) l × Step made l (read r n) (refused number layer place) l)
 
 -- what a call changes after any run
 pub record ChangePromise (made : Made) (l : List Page) : Type 0 where
@@ -93,6 +96,8 @@ pub record ChangePromise (made : Made) (l : List Page) : Type 0 where
   pub wear-granted : (l′ : List Page) (p c v : ℕ) (a : Answer) → Spot made p c v → Step made l (wear p c v) a l′ → a ≡ done
   pub drift-granted : (l′ : List Page) (p c v : ℕ) (a : Answer) → Spot made p c v → floor-at (page-of made l p) c ≤ v → Step made l (drift p c v) a l′ → a ≡ done
   pub drift-refused : (l′ : List Page) (p c v : ℕ) (a : Answer) → Spot made p c v → v < floor-at (page-of made l p) c → Step made l (drift p c v) a l′ → a ≡ refused 12 2 c
+  -- a call on a page that there is not is refused before all else
+  pub no-page-refused : (l′ : List Page) (call : Call) (a : Answer) → made .pages ≤ page-named call → Step made l call a l′ → a ≡ refused 4 2 (page-named call)
   -- every page keeps its levels below the alphabet's size and at or above their floors
   pub always-allowed : (p : ℕ) → Allowed (made .code) (page-of made l p .floors) (page-of made l p .levels)
   -- a call always has an answer, and one answer only
@@ -111,7 +116,7 @@ pub record BenchPromise (made : Made) (l : List Page) : Type 0 where
   pub bench-answered-one-way : (l′ l″ : List Page) (call : BenchCall) (a b : Answer) → BenchStep made l call a l′ → BenchStep made l call b l″ → (a ≡ b) × (l′ ≡ l″)
 
 pub record Promise (made : Made) : Type 0 where
-  pub saves : (bench : List (BenchCall × Answer)) (past : List (Call × Answer)) (l : List Page) (p : ℕ) (m : List ℕ) → InService made bench past l → SavePromise made bench past l p m
+  pub saves : (bench : List (BenchCall × Answer)) (past : List (Call × Answer)) (l : List Page) (p : ℕ) (m : List ℕ) → InService made bench past l → SavePromise made l p m
   pub reads : (bench : List (BenchCall × Answer)) (past : List (Call × Answer)) (l : List Page) → InService made bench past l → ReadPromise made bench past l
   pub changes : (bench : List (BenchCall × Answer)) (past : List (Call × Answer)) (l : List Page) → InService made bench past l → ChangePromise made l
   pub at-bench : (past : List (BenchCall × Answer)) (l : List Page) → AtBench made past l → BenchPromise made l
