@@ -24,7 +24,7 @@ use runs::live;
 use std::io;
 
 /// Tells the stories in turn.
-pub fn tell_all(rt: &LibcRuntime, stories: &[Story<'_>]) -> io::Result<()> {
+pub(crate) fn tell_all(rt: &LibcRuntime, stories: &[Story<'_>]) -> io::Result<()> {
     for story in stories {
         tell(rt, story)?;
     }
@@ -32,7 +32,7 @@ pub fn tell_all(rt: &LibcRuntime, stories: &[Story<'_>]) -> io::Result<()> {
 }
 
 /// Makes the story's card, lives its life, and prints a line for the making and for each call.
-pub fn tell(rt: &LibcRuntime, story: &Story<'_>) -> io::Result<()> {
+pub(crate) fn tell(rt: &LibcRuntime, story: &Story<'_>) -> io::Result<()> {
     let wanted = story.wanted;
     let name = wanted.name;
     print!(rt, "{name}, ")?;

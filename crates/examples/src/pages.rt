@@ -27,7 +27,7 @@ struct Page<'a> {
 }
 
 /// Works the examples in turn, and prints a line for each code and each step.
-pub fn work_all(rt: &LibcRuntime, examples: &[Example<'_>]) -> io::Result<()> {
+pub(crate) fn work_all(rt: &LibcRuntime, examples: &[Example<'_>]) -> io::Result<()> {
     for example in examples {
         work(rt, example)?;
     }

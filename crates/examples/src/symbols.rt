@@ -11,7 +11,7 @@ use std::io;
 const SYMBOLS: usize = 16;
 
 /// Shows two products and two inverses in the binary field of 16 symbols.
-pub fn multiply_and_invert(rt: &LibcRuntime) -> io::Result<()> {
+pub(crate) fn multiply_and_invert(rt: &LibcRuntime) -> io::Result<()> {
     println!(rt, "example 11: binary field of {SYMBOLS}")?;
     match BinaryField::new(SYMBOLS) {
         Ok(field) => {

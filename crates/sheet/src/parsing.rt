@@ -59,6 +59,11 @@ pub enum Line<'a> {
     },
 }
 
+/// A line has one reading: whatever the definition of parsing grants of it says the same.
+pub fn one_reading()
+    ensures { λ _. ⌜ OneReading ⌝ }
+{}
+
 /// What a line says.
 pub fn parse<'a>(line: &'a [u8]) -> Result<Line<'a>, Refusal>
     ensures { λ r. ⌜ Parsed (now (line .entry)) r ⌝ }
@@ -74,11 +79,6 @@ pub fn parse<'a>(line: &'a [u8]) -> Result<Line<'a>, Refusal>
     }
     read_fields(verb, columns)
 }
-
-/// A line has one reading: whatever the definition of parsing grants of it says the same.
-pub fn one_reading()
-    ensures { λ _. ⌜ OneReading ⌝ }
-{}
 
 /// The line of a verb and its fields.
 fn read_fields<'a>(verb: Verb, columns: &'a [u8]) -> Result<Line<'a>, Refusal>

@@ -16,7 +16,7 @@ pub enum Verb {
 }
 
 /// The verb of a line, and the columns after it.
-pub fn split_verb<'a>(line: &'a [u8]) -> Option<(Verb, &'a [u8])>
+pub(crate) fn split_verb<'a>(line: &'a [u8]) -> Option<(Verb, &'a [u8])>
     ensures { λ r. ⌜ Begins (now (line .entry)) r ⌝ }
 {
     match line {
@@ -33,7 +33,7 @@ pub fn split_verb<'a>(line: &'a [u8]) -> Option<(Verb, &'a [u8])>
 }
 
 /// Whether so many bytes after the verb are as many fields as it has, none of them broken.
-pub fn counts(verb: Verb, bytes: usize) -> bool
+pub(crate) fn counts(verb: Verb, bytes: usize) -> bool
     ensures { λ r. ⌜ Tells r (Counted verb bytes) ⌝ }
 {
     if bytes % FIELD != 0 {

@@ -10,7 +10,7 @@ use std::test::*;
 pub type Refused = (usize, usize, usize);
 
 /// A code that is on offer.
-pub fn make(alphabet: usize, code: usize, q: usize, n: usize) -> Result<AnyCode, Fail> {
+pub(crate) fn make(alphabet: usize, code: usize, q: usize, n: usize) -> Result<AnyCode, Fail> {
     match choose(alphabet, code, q, n) {
         Ok(chosen) => Ok(chosen),
         Err(refusal) => Err(Fail::new(refusal.number())),
@@ -18,7 +18,7 @@ pub fn make(alphabet: usize, code: usize, q: usize, n: usize) -> Result<AnyCode,
 }
 
 /// What an alphabet or a code refuses.
-pub fn check_refused<T: Drop>(
+pub(crate) fn check_refused<T: Drop>(
     result: Result<T, alphabet::Refusal>,
     refused: Refused,
 ) -> Result<(), Fail> {
@@ -32,7 +32,7 @@ pub fn check_refused<T: Drop>(
 }
 
 /// What a write or a read refuses.
-pub fn check_page_refused<T: Drop>(
+pub(crate) fn check_page_refused<T: Drop>(
     result: Result<T, masking::Refusal>,
     refused: Refused,
 ) -> Result<(), Fail> {
@@ -46,7 +46,7 @@ pub fn check_page_refused<T: Drop>(
 }
 
 /// Writes a message, and expects the mask, the forced count and the word.
-pub fn check_write<C: Code, const N: usize>(
+pub(crate) fn check_write<C: Code, const N: usize>(
     code: &C,
     floors: &[u8],
     allowance: usize,
@@ -63,7 +63,7 @@ pub fn check_write<C: Code, const N: usize>(
 }
 
 /// Reads a page, and expects the corrected count and the message.
-pub fn check_read<C: Code, const N: usize>(
+pub(crate) fn check_read<C: Code, const N: usize>(
     code: &C,
     levels: &[u8],
     corrected: usize,
