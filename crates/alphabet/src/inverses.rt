@@ -8,7 +8,7 @@ const ONE: u8 = 1;
 
 /// The first symbol whose product with `a` is 1, if there is one.
 pub(crate) fn find_inverse<S: Alphabet>(alphabet: &S, a: u8) -> Option<u8>
-    ensures { result ≡ inverse_in (meaning alphabet.now) (a % (meaning alphabet.now).size) }
+    ensures { result ≡ inverse_in (S.meaning alphabet.now) (a % (S.meaning alphabet.now).size) }
 {
     for x in 0..alphabet.size() {
         if alphabet.product(a, x) == ONE {

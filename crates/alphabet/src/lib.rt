@@ -1,4 +1,6 @@
 // Alphabets and fields: what they answer, the laws that they show, and those on offer.
+#![tactic(auto)]
+
 mod binary;
 mod inverses;
 mod modular;

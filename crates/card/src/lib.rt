@@ -1,4 +1,6 @@
 // A card of worn pages: at the bench it takes floors, in service saves, questions and notes.
+#![tactic(auto)]
+
 mod cards;
 mod faults;
 mod page;

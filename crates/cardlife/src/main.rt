@@ -1,4 +1,6 @@
 // Lives the lives of two cards, from the making to the last call, and asks for cards that are not made.
+#![tactic(auto)]
+
 mod bare_life;
 mod lives;
 mod plane_life;

@@ -1,4 +1,6 @@
 // Reads a bench sheet from standard input and writes its listing to standard output.
+#![tactic(auto)]
+
 use listing::list;
 use std::io::{Read, Write};
 

@@ -1,4 +1,6 @@
 // The codes on offer, chosen by numbers.
+#![tactic(auto)]
+
 mod chooses;
 mod kinds;
 mod offered;

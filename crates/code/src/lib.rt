@@ -1,4 +1,6 @@
 // Codes: what a code answers and the laws that it shows; the code without check cells.
+#![tactic(auto)]
+
 mod bare_code;
 mod checks;
 mod traits;

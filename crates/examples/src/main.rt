@@ -1,4 +1,6 @@
 // Works the worked examples of the rules on real pages, and asks for what is refused.
+#![tactic(auto)]
+
 mod asked;
 mod bare_examples;
 mod pages;

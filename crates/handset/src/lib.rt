@@ -1,4 +1,6 @@
 // One C call that reads a page: the handset knows the code and the levels, and no floor.
+#![tactic(auto)]
+
 ghost use Rattle.handset.specs.Answers.{ReadBy, Handset};
 
 use catalog::{AnyCode, choose};

@@ -1,4 +1,6 @@
 // The ledger of a card and the promise of every run, proved with no card at hand.
+#![tactic(auto)]
+
 ghost use Rattle.ledger.specs.Promise.{PromiseStands};
 ghost use Rattle.ledger.specs.NewCard.{NewCardsRead, SmallCardReads};
 

@@ -1,4 +1,6 @@
 // A bench sheet in, its listing out.
+#![tactic(auto)]
+
 mod bench;
 mod cards;
 mod entries;

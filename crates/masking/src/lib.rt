@@ -1,4 +1,6 @@
 // Masking: a message written into the word of a worn page, and read back by its levels alone.
+#![tactic(auto)]
+
 mod lengths;
 mod reading;
 mod refusals;

@@ -1,4 +1,6 @@
 // A caller of a card: one page, a floor at the bench, then service and a save.
+#![tactic(auto)]
+
 ghost use Rattle.std.specs.Prelude.{◌≡◌, MatchResult};
 ghost use Rattle.card.specs.declared.faults.Fault.TheVariants.{Memory};
 ghost use Rattle.opened.specs.Opened.{OpenedAndSaved};

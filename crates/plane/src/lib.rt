@@ -1,4 +1,6 @@
 // The Plane code: a word is q rows of q symbols, q the size of a field, and one wrong cell is corrected.
+#![tactic(auto)]
+
 ghost use Rattle.std.specs.Prelude.{◌≡◌};
 ghost use Rattle.plane.specs.Plane.{plane};
 ghost use Rattle.plane.specs.PlaneLaws.{plane_laws};

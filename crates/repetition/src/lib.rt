@@ -1,4 +1,6 @@
 // The Repetition code: two symbols in three cells each, so that one wrong cell is outvoted. docs/ADDING.md walks through it.
+#![tactic(auto)]
+
 ghost use Rattle.std.specs.Prelude.{◌≡◌};
 ghost use Rattle.repetition.specs.Repetition.{repetition};
 ghost use Rattle.repetition.specs.RepetitionLaws.{repetition_laws};

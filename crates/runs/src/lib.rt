@@ -1,4 +1,6 @@
 // A card's whole life as one call: made, floored at the bench, opened, and asked a list of calls.
+#![tactic(auto)]
+
 mod lives;
 mod performs;
 mod replies;

@@ -1,4 +1,6 @@
 // The lines of a bench sheet: cut at line feeds, and each one parsed.
+#![tactic(auto)]
+
 mod cutting;
 mod fields;
 mod parsing;

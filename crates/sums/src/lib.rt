@@ -1,4 +1,6 @@
 // Sums of symbols: what holds of them in every lawful alphabet. The lemmas in proofs/ are for every code.
+#![tactic(auto)]
+
 ghost use Rattle.sums.specs.Theorems.{EqualSymbolsCancel, OrderIsFree};
 
 /// A symbol summed as often as there are symbols is 0.

@@ -1,4 +1,6 @@
 // The worked examples of the rules, established from the definitions.
+#![tactic(auto)]
+
 ghost use Rattle.std.specs.Prelude.{◌≡◌};
 ghost use Rattle.worked.specs.Examples.{WorkedExamples};
 

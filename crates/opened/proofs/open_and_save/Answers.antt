@@ -4,8 +4,8 @@ use Rattle.opened.proofs.open_and_save.Goals as goal
 
 pub returns : goal.returns
 returns g c =
-    let made = c.in-ok-bench.ensures in
-    let floored = c.set-floor-floored.ensures.continues _ _ _ new made.shows in
+    let made = c.in_ok-bench.ensures in
+    let floored = c.set_floor-floored.ensures.continues _ _ _ new made.shows in
     let opened = c.open-card.ensures.opens _ _ floored.0 floored.1 floored.2 in
     let saved = c.save_saved.ensures.continues _ _ _ floored.0 opened.0 opened.1 in
     record {

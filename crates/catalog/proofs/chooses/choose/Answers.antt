@@ -5,16 +5,16 @@ use Rattle.catalog.specs.Kinds.{code_number}
 use Rattle.catalog.specs.Offers.{no_code_kind, of_kinds}
 use Rattle.catalog.proofs.chooses.choose.Goals as goal
 
-pub returns-in-err-code : goal.returns-in-err-code
-returns-in-err-code c =
-    let p = err_from_is_err_and c.from-residual-in-err-code.result c.from-residual-in-err-code.ensures.1 in
-    let h = c.in-err-code.ensures in
-    rw (p.1, p.2, h.0) (no_code_kind c.in-ok-alphabet.alphabet c.in-ok-alphabet.ensures h.1 refl)
+pub returns-in_err-code : goal.returns-in_err-code
+returns-in_err-code c =
+    let p = err_from_is_err_and c.from_residual-in_err-code.result c.from_residual-in_err-code.ensures.1 in
+    let h = c.in_err-code.ensures in
+    rw (p.1, p.2, h.0) (no_code_kind c.in_ok-alphabet.alphabet c.in_ok-alphabet.ensures h.1 refl)
 
 pub returns-in-Bare : goal.returns-in-Bare
 returns-in-Bare c =
-    of_kinds c.in-ok-alphabet.alphabet Bare c.in-ok-alphabet.ensures (ap code_number (sym c.in-Bare.is) ∙ c.in-ok-code.ensures) c.choose-bare.ensures
+    of_kinds c.in_ok-alphabet.alphabet Bare c.in_ok-alphabet.ensures (ap code_number (sym c.in-Bare.is) ∙ c.in_ok-code.ensures) c.choose_bare.ensures
 
 pub returns-in-Plane : goal.returns-in-Plane
 returns-in-Plane c =
-    of_kinds c.in-ok-alphabet.alphabet Plane c.in-ok-alphabet.ensures (ap code_number (sym c.in-Plane.is) ∙ c.in-ok-code.ensures) c.choose-plane.ensures
+    of_kinds c.in_ok-alphabet.alphabet Plane c.in_ok-alphabet.ensures (ap code_number (sym c.in-Plane.is) ∙ c.in_ok-code.ensures) c.choose_plane.ensures

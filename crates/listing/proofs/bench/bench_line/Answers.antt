@@ -8,7 +8,7 @@ returns-in-Err g c = ill_benched g.C.Code.meaning c.args.card.now c.args.line.no
 
 pub returns-in-Floor : goal.returns-in-Floor
 returns-in-Floor g c =
-    floor_benched g.C.Code.meaning c.args.card.now c.set-floor-reply.new.card c.args.line.now _ _ _ _ (subst (λ x. Parsed c.args.line.now (Ok x)) c.in-Floor.ensures c.in-Ok.ensures) c.set-floor-reply.ensures
+    floor_benched g.C.Code.meaning c.args.card.now c.set_floor-reply.new.card c.args.line.now _ _ _ _ (subst (λ x. Parsed c.args.line.now (Ok x)) c.in-Floor.ensures c.in-Ok.ensures) c.set_floor-reply.ensures
 
 pub returns-in-Untimely : goal.returns-in-Untimely
 returns-in-Untimely g c = untimely_benched g.C.Code.meaning c.args.card.now c.args.line.now c.in-Ok.line c.in-Ok.ensures c.in-Untimely.ensures

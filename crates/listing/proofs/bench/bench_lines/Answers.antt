@@ -10,8 +10,8 @@ use Rattle.listing.proofs.bench.bench_lines.Goals as goal
 pub loop-i-init : goal.loop-i-init
 loop-i-init g c = none_listed (AtTheBench g.C.Code.meaning) (bench_sound g.C.Code.meaning g.met.C.Code.lawful) c.args.card.now c.args.number (vec_items c.args.out)
 
-pub write-row-requires-in-loop-i : goal.write-row-requires-in-loop-i
-write-row-requires-in-loop-i g c = record {
+pub write_row-requires-in-loop-i : goal.write_row-requires-in-loop-i
+write_row-requires-in-loop-i g c = record {
   number = omega (arith, c.requires.few, c.loop-i-test.true);
   fits =
       line_fits (AtTheBench g.C.Code.meaning) (bench_sound g.C.Code.meaning g.met.C.Code.lawful) c.args.card.now c.loop-i.card c.bench_line.new.card
@@ -25,7 +25,7 @@ loop-i-preserved g c =
     (line_fits (AtTheBench g.C.Code.meaning) (bench_sound g.C.Code.meaning g.met.C.Code.lawful) c.args.card.now c.loop-i.card c.bench_line.new.card (take c.loop-i.i (texts c.args.lines.now)) c.loop-i.invariant.answers _ _ c.requires.used c.loop-i.invariant.goes c.in-Some.ensures)
     (lines_more c.args.lines.now c.loop-i.i _ c.loop-i-test.true)
     (ap (λ n. c.args.number + n) (lines_so_far c.args.lines.now c.loop-i.i c.loop-i-test.true))
-    c.in-ok-out-2.ensures
+    c.in_ok-out-2.ensures
 
 pub returns-in-default : goal.returns-in-default
 returns-in-default g c = (
@@ -34,7 +34,7 @@ returns-in-default g c = (
       (vec_items c.args.out) (vec_items c.loop-i.out) _ c.loop-i.invariant (open_benched g.C.Code.meaning c.loop-i.card c.bench_line.new.card _ c.in-default.ensures) done_fits
       (lines_more c.args.lines.now c.loop-i.i _ c.loop-i-test.true)
       (ap (λ n. c.args.number + n) (lines_so_far c.args.lines.now c.loop-i.i c.loop-i-test.true))
-      c.in-ok-out.ensures,
+      c.in_ok-out.ensures,
 )
 
 pub returns : goal.returns

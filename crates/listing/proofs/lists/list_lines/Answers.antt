@@ -9,10 +9,10 @@ use Rattle.listing.proofs.lists.list_lines.Goals as goal
 
 pub returns-in-Err : goal.returns-in-Err
 returns-in-Err c =
-    mapped c.write-row.result _ _ (λ v. one_told _ _ _ (form_refusal c.in-Err.refusal) _ _ (texts_first c.args.lines.now _ c.requires.some) (first_ill_formed _ _ c.in-Err.refusal c.in-Err.ensures) (form_fits _ c.in-Err.refusal c.in-Err.ensures)) c.write-row.ensures
+    mapped c.write_row.result _ _ (λ v. one_told _ _ _ (form_refusal c.in-Err.refusal) _ _ (texts_first c.args.lines.now _ c.requires.some) (first_ill_formed _ _ c.in-Err.refusal c.in-Err.ensures) (form_fits _ c.in-Err.refusal c.in-Err.ensures)) c.write_row.ensures
 
-pub list-choice-requires : goal.list-choice-requires
-list-choice-requires c =
+pub list_choice-requires : goal.list_choice-requires
+list_choice-requires c =
     let parsed = card_by _ c.in-Ok.line _ _ _ _ _ _ _ _ _ _ _ _ c.in-Ok.ensures c.in-Card.is c.from.ensures c.from-in-Card.ensures c.from-in-Card-2.ensures c.from-in-Card-3.ensures c.from-in-Card-4.ensures c.from-in-Card-5.ensures in
     let small = card_small _ _ _ _ _ _ _ parsed.1 in
     record {
@@ -25,8 +25,8 @@ list-choice-requires c =
 pub returns-in-Card : goal.returns-in-Card
 returns-in-Card c =
     let parsed = card_by _ c.in-Ok.line _ _ _ _ _ _ _ _ _ _ _ _ c.in-Ok.ensures c.in-Card.is c.from.ensures c.from-in-Card.ensures c.from-in-Card-2.ensures c.from-in-Card-3.ensures c.from-in-Card-4.ensures c.from-in-Card-5.ensures in
-    mapped c.list-choice.result _ _ (λ v. choice_told _ _ _ _ _ _ _ _ _ c.choose-choice.result _ _ (texts_first c.args.lines.now _ c.requires.some) parsed c.choose-choice.ensures (choice_fits _ _ _ _ c.choose-choice.result (card_small _ _ _ _ _ _ _ parsed.1).0 c.choose-choice.ensures)) c.list-choice.ensures
+    mapped c.list_choice.result _ _ (λ v. choice_told _ _ _ _ _ _ _ _ _ c.choose-choice.result _ _ (texts_first c.args.lines.now _ c.requires.some) parsed c.choose-choice.ensures (choice_fits _ _ _ _ c.choose-choice.result (card_small _ _ _ _ _ _ _ parsed.1).0 c.choose-choice.ensures)) c.list_choice.ensures
 
 pub returns-in-default : goal.returns-in-default
 returns-in-default c =
-    mapped c.write-row-in-default.result _ _ (λ v. one_told _ _ _ (form_refusal OutOfTurn) _ _ (texts_first c.args.lines.now _ c.requires.some) (first_untimely _ _ c.in-Ok.line c.in-Ok.ensures (no_card c.in-Ok.line c.in-default.not-Card)) turn_fits) c.write-row-in-default.ensures
+    mapped c.write_row-in-default.result _ _ (λ v. one_told _ _ _ (form_refusal OutOfTurn) _ _ (texts_first c.args.lines.now _ c.requires.some) (first_untimely _ _ c.in-Ok.line c.in-Ok.ensures (no_card c.in-Ok.line c.in-default.not-Card)) turn_fits) c.write_row-in-default.ensures

@@ -14,8 +14,8 @@ loop-value-preserved c =
 pub bounds-symbols-count : goal.bounds-symbols-count
 bounds-symbols-count c = omega (arith, room_there _ _ _ _ _ c.loop-value.invariant c.requires.whole c.in-Some.ensures.0, c.loop-value.auto.symbols, c.requires.room)
 
-pub overflow-add-count : goal.overflow-add-count
-overflow-add-count c = let h = room_there _ _ _ _ _ c.loop-value.invariant c.requires.whole c.in-Some.ensures.0 in search rules
+pub overflow_add-count : goal.overflow_add-count
+overflow_add-count c = let h = room_there _ _ _ _ _ c.loop-value.invariant c.requires.whole c.in-Some.ensures.0 in search rules
 
 pub loop-value-smaller : goal.loop-value-smaller
 loop-value-smaller c =

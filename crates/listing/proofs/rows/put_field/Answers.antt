@@ -10,10 +10,10 @@ justify-requires c = record { spaces = refl; fits = digits_most 3 c.args.value c
 pub returns : goal.returns
 unfolding field
 returns c =
-    let put = c.copy-from-slice.ensures.after ∙ c.justify.ensures in
+    let put = c.copy_from_slice.ensures.after ∙ c.justify.ensures in
     record {
       next = refl;
       put =
-          take-put_mid c.args.at _ c.args.row.now c.copy-from-slice.new.self (c.args.at + 4) (omega (arith, c.copy-from-slice.ensures.len, c.requires.room)) (omega (arith, c.requires.room))
+          take-put_mid c.args.at _ c.args.row.now c.copy_from_slice.new.self (c.args.at + 4) (omega (arith, c.copy_from_slice.ensures.len, c.requires.room)) (omega (arith, c.requires.room))
           ∙ ap (λ k. take c.args.at c.args.row.now ++ k) put;
     }

@@ -9,4 +9,4 @@ justify-requires c = record { spaces = refl; fits = digits_most 5 c.args.number 
 
 pub returns : goal.returns
 unfolding line_number
-returns c = take-put_mid 0 6 c.args.row.now c.copy-from-slice.new.self 6 (omega (arith, c.copy-from-slice.ensures.len, c.requires.room)) (omega arith) ∙ c.copy-from-slice.ensures.after ∙ c.justify.ensures
+returns c = take-put_mid 0 6 c.args.row.now c.copy_from_slice.new.self 6 (omega (arith, c.copy_from_slice.ensures.len, c.requires.room)) (omega arith) ∙ c.copy_from_slice.ensures.after ∙ c.justify.ensures

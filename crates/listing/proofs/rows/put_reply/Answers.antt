@@ -8,6 +8,6 @@ pub returns-in-Found : goal.returns-in-Found
 returns-in-Found c =
     let found = ap (λ r. fields (answer_of r)) c.in-Found.is in
     record {
-      next = omega (arith, c.put-symbols.ensures.next, c.put-fields-next.ensures.next, ap length c.as-slice.ensures.value, ap length found);
-      put = two_parts _ _ _ (0 ∷ c.in-Found.corrected ∷ []) _ _ _ c.put-fields-next.ensures.put c.put-symbols.ensures.put c.as-slice.ensures.value found;
+      next = omega (arith, c.put_symbols.ensures.next, c.put_fields-next.ensures.next, ap length c.as_slice.ensures.value, ap length found);
+      put = two_parts _ _ _ (0 ∷ c.in-Found.corrected ∷ []) _ _ _ c.put_fields-next.ensures.put c.put_symbols.ensures.put c.as_slice.ensures.value found;
     }

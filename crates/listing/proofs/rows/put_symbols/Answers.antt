@@ -5,15 +5,15 @@ use Rattle.listing.proofs.rows.put_symbols.Goals as goal
 pub loop-symbol-init : goal.loop-symbol-init
 loop-symbol-init c = none_put _ _ _
 
-pub put-field-next-requires : goal.put-field-next-requires
-put-field-next-requires c = record {
+pub put_field-next-requires : goal.put_field-next-requires
+put_field-next-requires c = record {
   room = omega (arith, c.requires, c.loop-symbol.invariant.place, c.loop-symbol-test.true, c.loop-symbol.auto.row);
   fits = search rules;
 }
 
 pub loop-symbol-preserved : goal.loop-symbol-preserved
 loop-symbol-preserved c =
-    one_put _ c.loop-symbol.row _ _ c.loop-symbol.next _ _ _ _ c.loop-symbol-test.true c.from.ensures c.loop-symbol.invariant c.put-field-next.ensures.next c.put-field-next.ensures.put
+    one_put _ c.loop-symbol.row _ _ c.loop-symbol.next _ _ _ _ c.loop-symbol-test.true c.from.ensures c.loop-symbol.invariant c.put_field-next.ensures.next c.put_field-next.ensures.put
 
 pub returns : goal.returns
 returns c =

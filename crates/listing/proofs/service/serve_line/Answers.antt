@@ -9,4 +9,4 @@ returns-in-default g c = untimely_served g.C.Code.meaning c.args.room c.args.car
 
 pub returns : goal.returns
 returns g c =
-    call_served g.C.Code.meaning g.met.C.Code.lawful c.args.room c.args.card.now c.perform.new.card c.args.line.now c.in-Ok.line _ _ c.in-Ok.ensures c.in-Some.ensures c.in-ok-reply.ensures
+    call_served g.C.Code.meaning g.met.C.Code.lawful c.args.room c.args.card.now c.perform.new.card c.args.line.now c.in-Ok.line _ _ c.in-Ok.ensures c.in-Some.ensures c.in_ok-reply.ensures

@@ -14,11 +14,11 @@ loop-i-preserved g c =
     let code = g.C.Code.meaning c.args.code.now in
     let laws = g.met.C.Code.lawful c.args.code.now in
     let i = c.loop-i.i in
-    elim c.match-information-cell.branch [
+    elim c.match-information_cell.branch [
       | in-Some w ↦ λ k h.
           ap (λ xs. get_or xs k 0) w.message-is
           ∙ unmasked_more code laws (g.Symbols.Alphabet.meaning c.alphabet-alphabet.result.now) c.args.word.now c.loop-i.message i w.in-Some.cell _ c.negative-down.result w.sum.result
-          c.alphabet-alphabet.ensures c.requires.held (omega (arith, c.loop-i-test.true, c.loop-i.auto.message)) c.loop-i.invariant w.in-Some.ensures c.first-symbol.ensures c.negative-down.ensures w.sum.ensures k h
+          c.alphabet-alphabet.ensures c.requires.held (omega (arith, c.loop-i-test.true, c.loop-i.auto.message)) c.loop-i.invariant w.in-Some.ensures c.first_symbol.ensures c.negative-down.ensures w.sum.ensures k h
       | in-default w ↦ absurd (rest_there code laws i (omega (arith, c.loop-i-test.true, c.requires.room)) w.in-default.ensures)
     ]
 

@@ -18,7 +18,7 @@ loop-i-preserved g c =
     let code = g.C.Code.meaning c.args.code.now in
     let laws = g.met.C.Code.lawful c.args.code.now in
     let i = c.loop-i.i in
-    elim c.match-information-cell.branch [
+    elim c.match-information_cell.branch [
       | in-Some w ↦
           subst (λ xs. Placed code c.args.message.now xs (i + 1)) (sym w.word-is)
           (one_more_placed code laws c.args.message.now c.requires.symbols c.loop-i.word i w.in-Some.cell c.loop-i-test.true w.in-Some.ensures c.loop-i.invariant)

@@ -2,8 +2,8 @@ use Rattle.std.proofs.Common.{arith}
 use Rattle.plane.proofs.Fields.{more_than_checks, information_count}
 use Rattle.plane.proofs.PlaneCode.dimension.Goals as goal
 
-pub overflow-sub-result : goal.overflow-sub-result
-overflow-sub-result g c =
+pub overflow_sub-result : goal.overflow_sub-result
+overflow_sub-result g c =
     let field = c.args.self.now.field in
     omega (arith, more_than_checks (g.F.Field.meaning field) (g.met.F.Field.lawful field) c.length.result c.length.ensures)
 

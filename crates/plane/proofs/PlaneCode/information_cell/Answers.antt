@@ -11,8 +11,8 @@ returns-then-index-q g c =
     let field = c.args.self.now.field in
     item_first (g.F.Field.meaning field) (g.met.F.Field.lawful field) (g.F.Alphabet.meaning field) (g.met.F.Field.agrees field) c.size-q.result c.args.index c.size-q.ensures c.if-index-q.true
 
-pub overflow-add-result-else-index-q : goal.overflow-add-result-else-index-q
-overflow-add-result-else-index-q g c =
+pub overflow_add-result-else-index-q : goal.overflow_add-result-else-index-q
+overflow_add-result-else-index-q g c =
     let field = c.args.self.now.field in
     later_fits (g.F.Field.meaning field) (g.met.F.Field.lawful field) c.dimension.result c.args.index c.dimension.ensures c.if-index-dimension.false
 

@@ -5,12 +5,12 @@ use Rattle.plane.proofs.three_sums.sums_of.Goals as goal
 pub loop-a-preserved : goal.loop-a-preserved
 loop-a-preserved g c =
     row_added (g.A.Alphabet.meaning c.args.alphabet.now) (g.met.A.Alphabet.lawful c.args.alphabet.now) c.args.word.now c.requires
-    c.loop-a.a c.loop-a.levels c.loop-a.rows c.add-row-row.result c.product-times.result c.sum-levels.result c.sum-rows.result c.loop-a.columns c.add-row-row.new.columns
-    (omega (arith, c.size-a-end.ensures, c.loop-a-test.true)) c.loop-a.invariant c.add-row-row.ensures.row c.product-times.ensures c.sum-levels.ensures c.sum-rows.ensures
-    c.add-row-row.ensures.summed c.add-row-row.auto.columns
+    c.loop-a.a c.loop-a.levels c.loop-a.rows c.add_row-row.result c.product-times.result c.sum-levels.result c.sum-rows.result c.loop-a.columns c.add_row-row.new.columns
+    (omega (arith, c.size-a-end.ensures, c.loop-a-test.true)) c.loop-a.invariant c.add_row-row.ensures.row c.product-times.ensures c.sum-levels.ensures c.sum-rows.ensures
+    c.add_row-row.ensures.summed c.add_row-row.auto.columns
 
-pub by-place-requires : goal.by-place-requires
-by-place-requires g c =
+pub by_place-requires : goal.by_place-requires
+by_place-requires g c =
     let m = g.A.Alphabet.meaning c.args.alphabet.now in
     let l = g.met.A.Alphabet.lawful c.args.alphabet.now in
     record {
@@ -26,5 +26,5 @@ returns g c =
     record {
       levels = levels_all m l c.args.word.now c.requires c.loop-a.a c.loop-a.levels c.loop-a.rows c.loop-a.columns last c.loop-a.invariant;
       rows = rows_all m l c.args.word.now c.requires c.loop-a.a c.loop-a.levels c.loop-a.rows c.loop-a.columns last c.loop-a.invariant;
-      columns = columns_all m l c.args.word.now c.requires c.loop-a.a c.by-place.result c.loop-a.columns last c.loop-a.invariant.summed c.by-place.ensures;
+      columns = columns_all m l c.args.word.now c.requires c.loop-a.a c.by_place.result c.loop-a.columns last c.loop-a.invariant.summed c.by_place.ensures;
     }

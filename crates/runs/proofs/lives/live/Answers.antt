@@ -4,9 +4,9 @@ use Rattle.runs.proofs.lives.live.Goals as goal
 
 pub returns : goal.returns
 returns g c =
-    let made = c.in-ok-card.ensures in
-    let floors = c.in-ok-bench.ensures in
-    let calls = c.in-ok-replies.ensures in
+    let made = c.in_ok-card.ensures in
+    let floors = c.in_ok-bench.ensures in
+    let calls = c.in_ok-replies.ensures in
     let benched = floors.1 _ _ _ new made.shows in
     let opened = c.open-card.ensures.opens _ _ benched.0 benched.1 benched.2 in
     let served = calls.1 _ _ _ benched.0 opened.0 opened.1 in

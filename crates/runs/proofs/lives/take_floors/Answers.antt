@@ -8,6 +8,6 @@ loop-floor-init g c = (search rules, no_floor_yet g.C.Code.meaning c.args.card.n
 pub loop-floor-preserved : goal.loop-floor-preserved
 loop-floor-preserved g c = (
   search rules,
-  one_more_floor g.C.Code.meaning c.args.card.now c.loop-floor.card c.set-floor-reply.new.card c.args.floors.now (vec_items c.loop-floor.replies) _ c.loop-floor.floor-index _ _ c.set-floor-reply.result c.loop-floor.invariant.1 c.set-floor-reply.ensures
-      c.loop-floor-test.true (omega (arith, c.loop-floor.replies.ok.0, c.loop-floor.invariant.0)) refl c.in-ok-push.ensures.items,
+  one_more_floor g.C.Code.meaning c.args.card.now c.loop-floor.card c.set_floor-reply.new.card c.args.floors.now (vec_items c.loop-floor.replies) _ c.loop-floor.floor-index _ _ c.set_floor-reply.result c.loop-floor.invariant.1 c.set_floor-reply.ensures
+      c.loop-floor-test.true (omega (arith, c.loop-floor.replies.ok.0, c.loop-floor.invariant.0)) refl c.in_ok-push.ensures.items,
 )

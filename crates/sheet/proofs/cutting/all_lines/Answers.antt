@@ -8,7 +8,7 @@ loop-line-smaller c = shorter _ _ _ c.in-Some.ensures
 
 pub loop-line-preserved : goal.loop-line-preserved
 loop-line-preserved c =
-    let pushed = chosen _ _ _ _ c.push.ensures.items (ap is_ok c.in-ok-push.was) in
+    let pushed = chosen _ _ _ _ c.push.ensures.items (ap is_ok c.in_ok-push.was) in
     subst (λ l. Sofar c.args.sheet.now l c.in-Some.after.now) (sym pushed)
     (one_more _ _ _ _ _ c.loop-line.invariant c.in-Some.ensures)
 

@@ -12,4 +12,4 @@ pub returns : goal.returns
 returns c =
     let long : 4 ≤ length c.args.columns.now = search rules in
     let p = front_is c.args.columns.now _ _ _ _ long refl refl refl refl in
-    (subst (λ k. Shows k c.in-ok-value.value) (sym p.0) c.in-ok-value.ensures, p.1)
+    (subst (λ k. Shows k c.in_ok-value.value) (sym p.0) c.in_ok-value.ensures, p.1)

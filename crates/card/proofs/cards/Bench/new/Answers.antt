@@ -6,8 +6,8 @@ use Rattle.card.proofs.cards.Bench.new.Goals as goal
 
 pub loop-preserved : goal.loop-preserved
 loop-preserved g c =
-    let e = c.in-ok-push.ensures.items in
-    (rw e (All-push (Blank c.length-cells.result) _ _ c.loop.invariant.0 c.in-ok-page.ensures), search rules)
+    let e = c.in_ok-push.ensures.items in
+    (rw e (All-push (Blank c.length-cells.result) _ _ c.loop.invariant.0 c.in_ok-page.ensures), search rules)
 
 pub returns : goal.returns
 returns g c = record {

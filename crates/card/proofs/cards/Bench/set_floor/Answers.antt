@@ -15,9 +15,9 @@ returns g c =
     let sized = c.size-size.ensures ∙ ap (λ m. m.size) c.alphabet.ensures in
     record {
       continues = λ made past l at shows.
-          floor_next g.C.Code.meaning g.met.C.Code.lawful c.args.self.now.code c.args.self.now.allowance _ c.args.page c.args.cell c.args.level c.size-size.result c.index-mut.result.now c.floor.new.self
-          (omega (arith, c.len.ensures, c.args.self.now.pages.ok.0)) c.index-mut.ensures.value sized c.floor.ensures.taken made l shows c.floor.result past at c.floor.ensures.cells;
+          floor_next g.C.Code.meaning g.met.C.Code.lawful c.args.self.now.code c.args.self.now.allowance _ c.args.page c.args.cell c.args.level c.size-size.result c.index_mut.result.now c.floor.new.self
+          (omega (arith, c.len.ensures, c.args.self.now.pages.ok.0)) c.index_mut.ensures.value sized c.floor.ensures.taken made l shows c.floor.result past at c.floor.ensures.cells;
       refused =
-          floor_refused g.C.Code.meaning g.met.C.Code.lawful c.args.self.now.code c.args.self.now.allowance _ c.args.page c.args.cell c.args.level c.size-size.result c.index-mut.result.now c.floor.new.self
-          (omega (arith, c.len.ensures, c.args.self.now.pages.ok.0)) c.index-mut.ensures.value sized c.floor.ensures.taken c.floor.result c.floor.ensures.cells;
+          floor_refused g.C.Code.meaning g.met.C.Code.lawful c.args.self.now.code c.args.self.now.allowance _ c.args.page c.args.cell c.args.level c.size-size.result c.index_mut.result.now c.floor.new.self
+          (omega (arith, c.len.ensures, c.args.self.now.pages.ok.0)) c.index_mut.ensures.value sized c.floor.ensures.taken c.floor.result c.floor.ensures.cells;
     }

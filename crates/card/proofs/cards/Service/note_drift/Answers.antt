@@ -15,9 +15,9 @@ returns g c =
     let sized = c.size-size.ensures ∙ ap (λ m. m.size) c.alphabet.ensures in
     record {
       continues = λ made bench past l at shows.
-          drift_next g.C.Code.meaning g.met.C.Code.lawful c.args.self.now.code c.args.self.now.allowance _ c.args.page c.args.cell c.args.level c.size-size.result c.index-mut.result.now c.drift.new.self
-          (omega (arith, c.len.ensures, c.args.self.now.pages.ok.0)) c.index-mut.ensures.value sized c.drift.ensures.taken made l shows bench past at c.drift.result c.drift.ensures.cells;
+          drift_next g.C.Code.meaning g.met.C.Code.lawful c.args.self.now.code c.args.self.now.allowance _ c.args.page c.args.cell c.args.level c.size-size.result c.index_mut.result.now c.drift.new.self
+          (omega (arith, c.len.ensures, c.args.self.now.pages.ok.0)) c.index_mut.ensures.value sized c.drift.ensures.taken made l shows bench past at c.drift.result c.drift.ensures.cells;
       refused =
-          drift_refused g.C.Code.meaning g.met.C.Code.lawful c.args.self.now.code c.args.self.now.allowance _ c.args.page c.args.cell c.args.level c.size-size.result c.index-mut.result.now c.drift.new.self
-          (omega (arith, c.len.ensures, c.args.self.now.pages.ok.0)) c.index-mut.ensures.value sized c.drift.ensures.taken c.drift.result c.drift.ensures.cells;
+          drift_refused g.C.Code.meaning g.met.C.Code.lawful c.args.self.now.code c.args.self.now.allowance _ c.args.page c.args.cell c.args.level c.size-size.result c.index_mut.result.now c.drift.new.self
+          (omega (arith, c.len.ensures, c.args.self.now.pages.ok.0)) c.index_mut.ensures.value sized c.drift.ensures.taken c.drift.result c.drift.ensures.cells;
     }

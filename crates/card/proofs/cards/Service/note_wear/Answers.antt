@@ -15,9 +15,9 @@ returns g c =
     let sized = c.size-size.ensures ∙ ap (λ m. m.size) c.alphabet.ensures in
     record {
       continues = λ made bench past l at shows.
-          wear_next g.C.Code.meaning g.met.C.Code.lawful c.args.self.now.code c.args.self.now.allowance _ c.args.page c.args.cell c.args.floor c.size-size.result c.index-mut.result.now c.wear.new.self
-          (omega (arith, c.len.ensures, c.args.self.now.pages.ok.0)) c.index-mut.ensures.value sized c.wear.ensures.taken made l shows bench past at c.wear.result c.wear.ensures.cells;
+          wear_next g.C.Code.meaning g.met.C.Code.lawful c.args.self.now.code c.args.self.now.allowance _ c.args.page c.args.cell c.args.floor c.size-size.result c.index_mut.result.now c.wear.new.self
+          (omega (arith, c.len.ensures, c.args.self.now.pages.ok.0)) c.index_mut.ensures.value sized c.wear.ensures.taken made l shows bench past at c.wear.result c.wear.ensures.cells;
       refused =
-          wear_refused g.C.Code.meaning g.met.C.Code.lawful c.args.self.now.code c.args.self.now.allowance _ c.args.page c.args.cell c.args.floor c.size-size.result c.index-mut.result.now c.wear.new.self
-          (omega (arith, c.len.ensures, c.args.self.now.pages.ok.0)) c.index-mut.ensures.value sized c.wear.ensures.taken c.wear.result c.wear.ensures.cells;
+          wear_refused g.C.Code.meaning g.met.C.Code.lawful c.args.self.now.code c.args.self.now.allowance _ c.args.page c.args.cell c.args.floor c.size-size.result c.index_mut.result.now c.wear.new.self
+          (omega (arith, c.len.ensures, c.args.self.now.pages.ok.0)) c.index_mut.ensures.value sized c.wear.ensures.taken c.wear.result c.wear.ensures.cells;
     }

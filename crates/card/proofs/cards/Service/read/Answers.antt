@@ -11,12 +11,12 @@ returns-then-page-len g c = record {
   untouched = refl;
 }
 
-pub returns-then-room-message-length : goal.returns-then-room-message-length
-returns-then-room-message-length g c = record {
+pub returns-then-room-message_length : goal.returns-then-room-message_length
+returns-then-room-message_length g c = record {
   continues = λ made bench past l at shows. (
     l,
     InService.next bench past l _ _ _ at (read_wrong_room l c.args.page (length c.args.message.now) (omega (arith, c.len.ensures, c.args.self.now.pages.ok.0, shows.count))
-        (λ same. c.if-room-message-length.true (same ∙ sym (c.message-length.ensures.value ∙ ap (λ k. length (rest k.information)) shows.coded)))),
+        (λ same. c.if-room-message_length.true (same ∙ sym (c.message_length.ensures.value ∙ ap (λ k. length (rest k.information)) shows.coded)))),
     shows,
   );
   untouched = refl;
@@ -28,7 +28,7 @@ returns g c = record {
     l,
     InService.next bench past l _ _ _ at
         (read_step made l c.args.page (length c.args.message.now) c.fetch.result c.fetch.new.message (omega (arith, c.if-page-len.false, c.len.ensures, c.args.self.now.pages.ok.0, shows.count))
-        (c.if-room-message-length.false ∙ c.message-length.ensures.value ∙ ap (λ k. length (rest k.information)) shows.coded) (c.fetch.ensures.fetches made bench past l at shows)),
+        (c.if-room-message_length.false ∙ c.message_length.ensures.value ∙ ap (λ k. length (rest k.information)) shows.coded) (c.fetch.ensures.fetches made bench past l at shows)),
     shows,
   );
   untouched = c.fetch.ensures.untouched;

@@ -15,8 +15,8 @@ returns-in-Ok g c = record {
   continues =
       let h = c.in-Ok.ensures in
       λ made bench past l at shows.
-      save_granted g.C.Code.meaning g.met.C.Code.lawful c.args.self.now.code c.args.self.now.allowance _ c.args.page c.args.message.now c.index-mut.result.now c.save.new.self
-      (omega (arith, c.len.ensures, c.args.self.now.pages.ok.0)) c.index-mut.ensures.value h.floors made bench past l at shows c.in-Ok.answer h.levels h.taken;
+      save_granted g.C.Code.meaning g.met.C.Code.lawful c.args.self.now.code c.args.self.now.allowance _ c.args.page c.args.message.now c.index_mut.result.now c.save.new.self
+      (omega (arith, c.len.ensures, c.args.self.now.pages.ok.0)) c.index_mut.ensures.value h.floors made bench past l at shows c.in-Ok.answer h.levels h.taken;
   refused = tt;
 }
 
@@ -25,9 +25,9 @@ returns-in-Err g c =
     let h = c.in-Err.ensures in
     record {
       continues = λ made bench past l at shows.
-          save_refused g.C.Code.meaning g.met.C.Code.lawful c.args.self.now.code c.args.self.now.allowance _ c.args.page c.args.message.now c.index-mut.result.now c.save.new.self
-          (omega (arith, c.len.ensures, c.args.self.now.pages.ok.0)) c.index-mut.ensures.value h.floors made bench past l at shows c.in-Err.refusal h.levels h.taken;
+          save_refused g.C.Code.meaning g.met.C.Code.lawful c.args.self.now.code c.args.self.now.allowance _ c.args.page c.args.message.now c.index_mut.result.now c.save.new.self
+          (omega (arith, c.len.ensures, c.args.self.now.pages.ok.0)) c.index_mut.ensures.value h.floors made bench past l at shows c.in-Err.refusal h.levels h.taken;
       refused =
-          save_unaltered g.C.Code.meaning g.met.C.Code.lawful c.args.self.now.code c.args.self.now.allowance _ c.args.page c.args.message.now c.index-mut.result.now c.save.new.self
-          (omega (arith, c.len.ensures, c.args.self.now.pages.ok.0)) c.index-mut.ensures.value h.floors c.in-Err.refusal h.levels;
+          save_unaltered g.C.Code.meaning g.met.C.Code.lawful c.args.self.now.code c.args.self.now.allowance _ c.args.page c.args.message.now c.index_mut.result.now c.save.new.self
+          (omega (arith, c.len.ensures, c.args.self.now.pages.ok.0)) c.index_mut.ensures.value h.floors c.in-Err.refusal h.levels;
     }
