@@ -13,6 +13,7 @@ TOKEN = re.compile(r"(?<![-\w'])[A-Za-z0-9_']+(?:-[A-Za-z0-9_']+)+(?![-\w'])")
 WORDS = [
     (re.compile(r'(?<![\w])overflow-(add|sub|mul|cast|neg|shl|shr)-'), r'overflow_\1-'),
     (re.compile(r'(?<![\w])in-(ok|err)-'), r'in_\1-'),
+    (re.compile(r'(?<![\w])in-default(?![\w])'), 'in_default'),
     (re.compile(r'(?<![\w])from-(residual|gives)(?![\w])'), r'from_\1'),
 ]
 # methods of the library that proofs here cite

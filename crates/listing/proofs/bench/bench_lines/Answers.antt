@@ -27,11 +27,11 @@ loop-i-preserved g c =
     (ap (λ n. c.args.number + n) (lines_so_far c.args.lines.now c.loop-i.i c.loop-i-test.true))
     c.in_ok-out-2.ensures
 
-pub returns-in-default : goal.returns-in-default
-returns-in-default g c = (
+pub returns-in_default : goal.returns-in_default
+returns-in_default g c = (
   omega (arith, length_texts c.args.lines.now, c.loop-i-test.true),
   one_listed (AtTheBench g.C.Code.meaning) (bench_sound g.C.Code.meaning g.met.C.Code.lawful) (AtItsOpening g.C.Code.meaning) c.args.card.now c.loop-i.card c.bench_line.new.card _ _ _ done c.args.number _
-      (vec_items c.args.out) (vec_items c.loop-i.out) _ c.loop-i.invariant (open_benched g.C.Code.meaning c.loop-i.card c.bench_line.new.card _ c.in-default.ensures) done_fits
+      (vec_items c.args.out) (vec_items c.loop-i.out) _ c.loop-i.invariant (open_benched g.C.Code.meaning c.loop-i.card c.bench_line.new.card _ c.in_default.ensures) done_fits
       (lines_more c.args.lines.now c.loop-i.i _ c.loop-i-test.true)
       (ap (λ n. c.args.number + n) (lines_so_far c.args.lines.now c.loop-i.i c.loop-i-test.true))
       c.in_ok-out.ensures,

@@ -6,10 +6,10 @@ use Rattle.listing.proofs.Gathered.{length_texts}
 use Rattle.listing.proofs.Opened.{texts_drop, opened_in_use, others_at_bench, others_served}
 use Rattle.listing.proofs.cards.list_others.Goals as goal
 
-pub returns-in-default : goal.returns-in-default
-returns-in-default g c =
+pub returns-in_default : goal.returns-in_default
+returns-in_default g c =
     others_at_bench g.C.Code.meaning g.met.C.Code.lawful c.args.bench c.bench_lines.new.card _ _ _
-    (subst (λ t. BenchLines g.C.Code.meaning c.args.bench (texts c.args.lines.now) 2 (vec_items c.args.out) t c.bench_lines.new.card (vec_items c.in_ok-opened.out)) c.in-default.is c.in_ok-opened.ensures)
+    (subst (λ t. BenchLines g.C.Code.meaning c.args.bench (texts c.args.lines.now) 2 (vec_items c.args.out) t c.bench_lines.new.card (vec_items c.in_ok-opened.out)) c.in_default.is c.in_ok-opened.ensures)
 
 pub split_at-requires : goal.split_at-requires
 split_at-requires g c =

@@ -9,7 +9,7 @@ returns-in-Err c = mapped c.write_row.result _ _ (λ v. refused_sheet _ c.in-Err
 pub list_lines-requires : goal.list_lines-requires
 list_lines-requires c =
     let all = c.in_ok-lines.ensures in
-    let checked = c.in-default.ensures in
+    let checked = c.in_default.ensures in
     record {
       some = omega (arith, ap length c.as_slice.ensures.value, lines_some _ _ all checked.0);
       few = omega (arith, ap length c.as_slice.ensures.value, lines_few _ _ all checked.1);
@@ -17,4 +17,4 @@ list_lines-requires c =
 
 pub returns : goal.returns
 returns c =
-    mapped c.list_lines.result _ _ (λ v. listed_sheet _ _ _ _ _ c.in-default.ensures c.in_ok-lines.ensures c.as_slice.ensures.value c.new-out.ensures.items) c.list_lines.ensures
+    mapped c.list_lines.result _ _ (λ v. listed_sheet _ _ _ _ _ c.in_default.ensures c.in_ok-lines.ensures c.as_slice.ensures.value c.new-out.ensures.items) c.list_lines.ensures

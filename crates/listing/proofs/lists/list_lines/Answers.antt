@@ -27,6 +27,6 @@ returns-in-Card c =
     let parsed = card_by _ c.in-Ok.line _ _ _ _ _ _ _ _ _ _ _ _ c.in-Ok.ensures c.in-Card.is c.from.ensures c.from-in-Card.ensures c.from-in-Card-2.ensures c.from-in-Card-3.ensures c.from-in-Card-4.ensures c.from-in-Card-5.ensures in
     mapped c.list_choice.result _ _ (λ v. choice_told _ _ _ _ _ _ _ _ _ c.choose-choice.result _ _ (texts_first c.args.lines.now _ c.requires.some) parsed c.choose-choice.ensures (choice_fits _ _ _ _ c.choose-choice.result (card_small _ _ _ _ _ _ _ parsed.1).0 c.choose-choice.ensures)) c.list_choice.ensures
 
-pub returns-in-default : goal.returns-in-default
-returns-in-default c =
-    mapped c.write_row-in-default.result _ _ (λ v. one_told _ _ _ (form_refusal OutOfTurn) _ _ (texts_first c.args.lines.now _ c.requires.some) (first_untimely _ _ c.in-Ok.line c.in-Ok.ensures (no_card c.in-Ok.line c.in-default.not-Card)) turn_fits) c.write_row-in-default.ensures
+pub returns-in_default : goal.returns-in_default
+returns-in_default c =
+    mapped c.write_row-in_default.result _ _ (λ v. one_told _ _ _ (form_refusal OutOfTurn) _ _ (texts_first c.args.lines.now _ c.requires.some) (first_untimely _ _ c.in-Ok.line c.in-Ok.ensures (no_card c.in-Ok.line c.in_default.not-Card)) turn_fits) c.write_row-in_default.ensures

@@ -23,4 +23,4 @@ loop-value-smaller c =
     omega (arith, ap length taken.1, length-drop 4 c.loop-value.rest.now, shown_long _ c.in-Some.value taken.0, length-take 4 c.loop-value.rest.now)
 
 pub returns : goal.returns
-returns c = record { shown = all_taken _ _ _ _ c.loop-value.invariant c.requires.whole c.in-default.ensures; bound = omega (arith, c.loop-value.invariant.inside, c.requires.whole.2) }
+returns c = record { shown = all_taken _ _ _ _ c.loop-value.invariant c.requires.whole c.in_default.ensures; bound = omega (arith, c.loop-value.invariant.inside, c.requires.whole.2) }

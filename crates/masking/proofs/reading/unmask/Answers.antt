@@ -1,7 +1,7 @@
 use Rattle.std.proofs.Common.{◌+◌, get_or, ap, ◌∙◌, arith}
 use Rattle.masking.proofs.Information.{cell_within, rest_there, unmasked_more, unmasked}
 use Rattle.masking.proofs.reading.unmask.Goals as goal
-use Rattle.masking.proofs.reading.unmask.Goals.{in-Some, in-default}
+use Rattle.masking.proofs.reading.unmask.Goals.{in-Some, in_default}
 
 pub bounds-word-cell : goal.bounds-word-cell
 bounds-word-cell g c =
@@ -17,9 +17,9 @@ loop-i-preserved g c =
     elim c.match-information_cell.branch [
       | in-Some w ↦ λ k h.
           ap (λ xs. get_or xs k 0) w.message-is
-          ∙ unmasked_more code laws (g.Symbols.Alphabet.meaning c.alphabet-alphabet.result.now) c.args.word.now c.loop-i.message i w.in-Some.cell _ c.negative-down.result w.sum.result
+          ∙ unmasked_more code laws (g.C.Symbols.Alphabet.meaning c.alphabet-alphabet.result.now) c.args.word.now c.loop-i.message i w.in-Some.cell _ c.negative-down.result w.sum.result
           c.alphabet-alphabet.ensures c.requires.held (omega (arith, c.loop-i-test.true, c.loop-i.auto.message)) c.loop-i.invariant w.in-Some.ensures c.first_symbol.ensures c.negative-down.ensures w.sum.ensures k h
-      | in-default w ↦ absurd (rest_there code laws i (omega (arith, c.loop-i-test.true, c.requires.room)) w.in-default.ensures)
+      | in_default w ↦ absurd (rest_there code laws i (omega (arith, c.loop-i-test.true, c.requires.room)) w.in_default.ensures)
     ]
 
 pub returns : goal.returns

@@ -2,7 +2,7 @@ use Rattle.std.proofs.Common.{ℕ, ◌+◌, replicate, sym, ap, ◌∙◌, subst
 use Rattle.masking.proofs.Information.{cell_within, rest_there}
 use Rattle.masking.proofs.Placing.{Placed, none_placed, one_more_placed, all_placed}
 use Rattle.masking.proofs.writing.place_message.Goals as goal
-use Rattle.masking.proofs.writing.place_message.Goals.{in-Some, in-default}
+use Rattle.masking.proofs.writing.place_message.Goals.{in-Some, in_default}
 
 pub loop-i-init : goal.loop-i-init
 loop-i-init g c =
@@ -22,7 +22,7 @@ loop-i-preserved g c =
       | in-Some w ↦
           subst (λ xs. Placed code c.args.message.now xs (i + 1)) (sym w.word-is)
           (one_more_placed code laws c.args.message.now c.requires.symbols c.loop-i.word i w.in-Some.cell c.loop-i-test.true w.in-Some.ensures c.loop-i.invariant)
-      | in-default w ↦ absurd (rest_there code laws i (omega (arith, c.loop-i-test.true, c.requires.symbols.whole)) w.in-default.ensures)
+      | in_default w ↦ absurd (rest_there code laws i (omega (arith, c.loop-i-test.true, c.requires.symbols.whole)) w.in_default.ensures)
     ]
 
 pub returns : goal.returns

@@ -13,4 +13,4 @@ loop-line-preserved c =
     (one_more _ _ _ _ _ c.loop-line.invariant c.in-Some.ensures)
 
 pub returns : goal.returns
-returns c = done _ (vec_items c.loop-line.all) _ c.loop-line.invariant c.in-default.ensures
+returns c = done _ (vec_items c.loop-line.all) _ c.loop-line.invariant c.in_default.ensures

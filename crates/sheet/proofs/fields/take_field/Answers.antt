@@ -3,8 +3,8 @@ use Rattle.sheet.specs.Fields.{Shows}
 use Rattle.sheet.proofs.Shown.{front_is, too_short}
 use Rattle.sheet.proofs.fields.take_field.Goals as goal
 
-pub returns-in-default : goal.returns-in-default
-returns-in-default c =
+pub returns-in_default : goal.returns-in_default
+returns-in_default c =
     let short : length c.args.columns.now < 4 = search rules in
     too_short _ short
 

@@ -29,8 +29,8 @@ returns-in-83 c = search (rules, front_is)
 pub returns-in-83-2 : goal.returns-in-83-2
 returns-in-83-2 c = search (rules, front_is)
 
-pub returns-in-default : goal.returns-in-default
-returns-in-default c = λ v. elim v as (λ u. take 4 c.args.line.now ≡ name u → ⊥) [
+pub returns-in_default : goal.returns-in_default
+returns-in_default c = λ v. elim v as (λ u. take 4 c.args.line.now ≡ name u → ⊥) [
   | Card ↦ λ e. let p = letters c.args.line.now 67 65 82 68 e in search rules
   | Floor ↦ λ e. let p = letters c.args.line.now 70 76 79 82 e in search rules
   | Worn ↦ λ e. let p = letters c.args.line.now 87 79 82 78 e in search rules
