@@ -12,8 +12,7 @@ const REFUSED: u32 = 100;
 
 /// Reads a page of this code into the message buffer.
 /// Answers how many cells were corrected, or 100 plus the number of the refusal, which leaves the buffer as it was.
-#[unsafe(no_mangle)]
-pub extern "C" fn handset_read(
+pub fn handset_read(
     alphabet: u32,
     code: u32,
     q: u32,

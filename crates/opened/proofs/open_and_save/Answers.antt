@@ -7,7 +7,7 @@ returns g c =
     let made = c.in_ok-bench.ensures in
     let floored = c.set_floor-floored.ensures.continues _ _ _ new made.shows in
     let opened = c.open-card.ensures.opens _ _ floored.0 floored.1 floored.2 in
-    let saved = c.save_saved.ensures.continues _ _ _ floored.0 opened.0 opened.1 in
+    let saved = c.save-saved.ensures.continues _ _ _ floored.0 opened.0 opened.1 in
     record {
       ledger_of = saved.0;
       kept = saved.1;
