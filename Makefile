@@ -2,13 +2,12 @@
 
 CC := gcc
 CFLAGS := -std=c11 -O2 -Wall -Wextra -Werror
-KIT = $(shell dirname "$$(dirname "$$(rt doc)")")
 
 host := target/host
 library := target/staticlib/libhandset.a
 cardrun := target/bin/cardrun
 headers := $(wildcard host/*.h)
-crates := crates.txt $(shell find crates -type f \( -name '*.rt' -o -name '*.antt' \))
+crates := crates.txt $(shell find crates -path '*/out' -prune -o -type f \( -name '*.rt' -o -name '*.antt' \) -print)
 
 .DEFAULT_GOAL := help
 .PHONY: help run test host host-check readers-check listings-check examples-check speed clean
@@ -22,8 +21,7 @@ help:
 	@echo 'make speed       time the readers, and cardrun beside the plain C one'
 	@echo 'make clean       remove target/'
 
-run:
-	rt check examples cardlife cardrun
+run: target/bin/examples target/bin/cardlife $(cardrun)
 	@echo
 	@target/bin/examples
 	@echo
@@ -56,14 +54,17 @@ speed: $(host)/speed $(host)/speed_listings $(cardrun) $(host)/plain_cardrun
 clean:
 	rm -rf target
 
-# the static library of the crate handset, for C to link
+# the static library of the crate handset_c, for C to link
 $(library): $(crates)
-	rt staticlib handset
+	cd crates/handset_c && rt lib
+	@mkdir -p $(@D)
+	@cp crates/handset_c/out/libhandset_c.a $@
 
-# the proved program that runs sheets; touched, since a check leaves a program that is up to date as it is
-$(cardrun): $(crates)
-	rt check cardrun
-	@touch $@
+# a program, proved and linked; it is run once, on its own input, since that is what builds it
+target/bin/%: $(crates)
+	cd crates/$* && rt run >/dev/null <$(if $(wildcard crates/$*/stdin),stdin,/dev/null)
+	@mkdir -p $(@D)
+	@cp crates/$*/out/$* $@
 
 $(host)/%.o: host/%.c $(headers)
 	@mkdir -p $(host)
@@ -74,7 +75,7 @@ $(host)/compare: $(host)/compare.o $(host)/pages.o $(host)/plain_reader.o $(host
 $(host)/speed: $(host)/speed.o $(host)/pages.o $(host)/plain_reader.o $(host)/plain_code.o $(library)
 
 $(host)/read_page $(host)/compare $(host)/speed:
-	$(CC) $(CFLAGS) $^ $(KIT)/lib/librattle_c.a -o $@
+	$(CC) $(CFLAGS) $^ -o $@
 
 $(host)/plain_cardrun: $(host)/plain_cardrun.o $(host)/plain_card.o $(host)/plain_code.o
 $(host)/compare_listings: $(host)/compare_listings.o $(host)/programs.o $(host)/sheets.o $(host)/pages.o
