@@ -7,14 +7,10 @@ use std::io::{Read, Write};
 /// The longest sheet and one byte more, which tells that a sheet is too long.
 const MOST_READ: u64 = 65_537;
 
-fn run(rt: &HostRuntime) -> anyhow::Result<()> {
+fn main(rt: HostRuntime) -> anyhow::Result<()> {
     let mut sheet = Vec::new(rt.alloc());
     rt.stdin().take(MOST_READ).read_to_end(&mut sheet)?;
     let listing = list(rt.alloc(), sheet.as_slice())?;
     rt.stdout().write_all(listing.as_slice())?;
     Ok(())
-}
-
-fn main(rt: HostRuntime) -> anyhow::Result<()> {
-    run(&rt)
 }

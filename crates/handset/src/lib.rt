@@ -12,13 +12,7 @@ const REFUSED: u32 = 100;
 
 /// Reads a page of this code into the message buffer.
 /// Answers how many cells were corrected, or 100 plus the number of the refusal, which leaves the buffer as it was.
-pub fn handset_read(
-    alphabet: u32,
-    code: u32,
-    q: u32,
-    levels: &[u8],
-    message: &mut [u8],
-) -> u32
+pub fn handset_read(alphabet: u32, code: u32, q: u32, levels: &[u8], message: &mut [u8]) -> u32
     ensures { Handset alphabet code q levels.now message.old result message.new }
 {
     match choose(alphabet as usize, code as usize, q as usize, levels.len()) {

@@ -1,6 +1,6 @@
 -- The ledger of a card: what its pages hold and what its calls answer, kept from what the card was made from and from the calls alone.
 -- One line for each rule, in the words of the pages; nothing here speaks of how a card works. Assumes nothing.
-use Rattle.std.specs.Prelude.{◌≡◌, ℕ, ◌<◌, ◌≤◌, max, Bool, false, not, ◌||◌, List, [], ◌∷◌, length, set, replicate, Some, None, Option, ◌==◌, ◌≢◌, nat_lt, slice_index, slice_index_or, slice_set}
+use Rattle.std.specs.Prelude.{◌≡◌, ℕ, ◌<◌, ◌≤◌, max, Bool, false, not, ◌||◌, List, [], ◌∷◌, length, replicate, Some, None, Option, ◌==◌, ◌≢◌, nat_lt, slice_index, slice_index_or, slice_set}
 use Rattle.code.specs.Words.{BlockCode, Message, rest}
 use Rattle.code.specs.Calls.{FirstBad, AllFar}
 use Rattle.masking.specs.Floors.{Fewest}

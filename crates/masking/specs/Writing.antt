@@ -1,5 +1,5 @@
 -- What writing a message into a page's word answers, and what it leaves in the word. Assumes nothing.
-use Rattle.std.specs.Prelude.{◌≡◌, ℕ, ◌+◌, ◌-◌, ◌<◌, ◌≤◌, ◌⊎◌, List, length, Ok, Err, Result, ◌≢◌, slice_index}
+use Rattle.std.specs.Prelude.{◌≡◌, ℕ, ◌+◌, ◌<◌, ◌≤◌, ◌⊎◌, List, length, Ok, Err, Result, ◌≢◌, slice_index}
 use Rattle.alphabet.specs.declared.refusals.Refusal.TheVariants as word
 use Rattle.code.specs.Words.{BlockCode, Filled, Message, Carries, mask_of, rest, differences}
 use Rattle.code.specs.Calls.{FirstBad}

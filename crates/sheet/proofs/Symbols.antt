@@ -1,5 +1,5 @@
 -- Taking a save's symbols off one after another: what was taken so far, that one more is there, and that they are whole fields.
-use Rattle.std.proofs.Common.{◌≡◌, ℕ, suc, ◌+◌, ◌-◌, ◌*◌, ◌%◌, ◌<◌, List, [], ◌∷◌, ◌++◌, length, take, drop, Ok, sym, ap, ◌∙◌, subst, arith, length-drop, drop-drop, Bor}
+use Rattle.std.proofs.Common.{◌≡◌, ℕ, suc, ◌+◌, ◌*◌, ◌%◌, ◌<◌, List, [], ◌∷◌, ◌++◌, length, take, drop, Ok, sym, ap, ◌∙◌, subst, arith, length-drop, drop-drop, Bor}
 use Rattle.sheet.specs.declared.parsing.Line.TheVariants.{Save}
 use Rattle.sheet.specs.Fields.{Shows, IllFormed}
 use Rattle.sheet.specs.Parsing.{BeginWith, AllWellFormed, Parsed}
