@@ -2,9 +2,9 @@
  * Reading a page of multi-level cells on a handset.
  *
  * One call takes the levels of a page, corrects them, removes the mask and
- * gives the message. It is proved in the Rattle crate `handset`; link
- * target/staticlib/libhandset.a, which `make host` builds. docs/RULES.md has
- * all rules.
+ * gives the message. It is proved in the Rattle crates `handset` and
+ * `handset_c`; link target/staticlib/libhandset.a, which `make host` builds.
+ * docs/RULES.md has all rules.
  */
 #ifndef HANDSET_H
 #define HANDSET_H

@@ -17,5 +17,5 @@ BinarySize q = T (q == 4 || (q == 8 || q == 16))
 
 -- a maker grants the size that it is asked for if that is on offer, and refuses it otherwise
 abbrev pub Offered : {A : Type 0} → (A → ℕ) → (ℕ → Type 0) → ℕ → Result A Refusal → Type 0
-Offered type_size On size (Ok alphabet) = (type_size alphabet ≡ size) × On size
-Offered type_size On size (Err refusal) = (refusal ≡ NotOffered AlphabetSize) × (On size → ⊥)
+Offered size_of On size (Ok alphabet) = (size_of alphabet ≡ size) × On size
+Offered size_of On size (Err refusal) = (refusal ≡ NotOffered AlphabetSize) × (On size → ⊥)

@@ -1,10 +1,10 @@
 // The remainders by a prime, which are a field.
+ghost use Rattle.std.specs.Prelude.{refl};
 ghost use Rattle.alphabet.specs.Offers.{PrimeSize, Offered};
 ghost use Rattle.alphabet.specs.Residue.{modulo};
 ghost use Rattle.alphabet.specs.Inverses.{with_inverses};
 ghost use Rattle.alphabet.specs.Remainders.{modulo_lawful};
 ghost use Rattle.alphabet.specs.Fields.{prime_field};
-ghost use Rattle.std.proofs.Common.{rules, arith};
 
 use crate::inverses::find_inverse;
 use crate::modular::Residues;
@@ -62,7 +62,7 @@ impl Field for PrimeResidues {
 
     ghost lawful = { λ a. prime_field a.residues.q a.residues.ok a.prime };
 
-    ghost agrees = { first_of (Prim.search rules, Prim.grind (arith, Self.row.coded.inj)) };
+    ghost agrees = { λ _. refl };
 
     fn inverse(&self, a: u8) -> Option<u8> {
         find_inverse(self, a)

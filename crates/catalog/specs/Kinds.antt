@@ -28,8 +28,8 @@ code_number Plane = 1
 
 -- a number is that of a kind, or of none, and then the choice that it makes is refused
 abbrev pub Named : {K : Type 0} → (K → ℕ) → Choice → ℕ → Result K Refusal → Type 0
-Named number_of_lem choice number (Ok kind) = number_of_lem kind ≡ number
-Named number_of_lem choice number (Err refusal) = (refusal ≡ NotOffered choice) × ((kind : _) → number_of_lem kind ≢ number)
+Named number_of choice number (Ok kind) = number_of kind ≡ number
+Named number_of choice number (Err refusal) = (refusal ≡ NotOffered choice) × ((kind : _) → number_of kind ≢ number)
 
 -- the arithmetic of an alphabet's kind and size
 abbrev pub arithmetic_of : AlphabetKind → ℕ → Arithmetic

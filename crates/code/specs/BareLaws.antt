@@ -9,7 +9,7 @@ use Rattle.code.specs.Words.{Filled, Word, symbols_at, differences}
 use Rattle.code.specs.Laws.{CodeLaws}
 use Rattle.code.specs.Calls.{item, Unfit, Checked, Completed, Corrects}
 use Rattle.code.specs.Bare.{all_below, from, bare}
-use Rattle.code.specs.Cells.{below_each, each_below, length_from, get_or_from, item_there, item_past, length_at, get_d_at}
+use Rattle.code.specs.Cells.{below_each, each_below, length_from, get_or_from, item_there, item_past, length_at, slice_index_at}
 use Rattle.code.specs.Differences.{differences_self, same_from_none}
 
 -- the cells of a whole word are the word
@@ -18,7 +18,7 @@ all_cells w =
     let long : length (symbols_at w (from 0 (length w))) ≡ length w = length_at w (from 0 (length w)) ∙ length_from 0 (length w) in
     ext_get_or 0 (symbols_at w (from 0 (length w))) w long (λ k h.
     let inside : k < length w = omega arith in
-    get_d_at w (from 0 (length w)) k (omega (arith, length_from 0 (length w)))
+    slice_index_at w (from 0 (length w)) k (omega (arith, length_from 0 (length w)))
     ∙ ap (λ (i : ℕ). slice_index w i) (get_or_from 0 (length w) k inside ∙ omega arith))
 
 -- the information cell of an index is the cell of that index

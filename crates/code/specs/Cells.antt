@@ -65,10 +65,10 @@ pub length_at : (w is : List ℕ) → length (symbols_at w is) ≡ length is
 length_at w [] = refl
 length_at w (i ∷ is) = ap suc (length_at w is)
 
-pub get_d_at : (w is : List ℕ) (k : ℕ) → k < length is → slice_index (symbols_at w is) k ≡ slice_index w (slice_index is k)
-get_d_at w [] k h = absurd (omega arith)
-get_d_at w (i ∷ is) zero h = refl
-get_d_at w (i ∷ is) (suc k) h = get_d_at w is k (omega arith)
+pub slice_index_at : (w is : List ℕ) (k : ℕ) → k < length is → slice_index (symbols_at w is) k ≡ slice_index w (slice_index is k)
+slice_index_at w [] k h = absurd (omega arith)
+slice_index_at w (i ∷ is) zero h = refl
+slice_index_at w (i ∷ is) (suc k) h = slice_index_at w is k (omega arith)
 
 pub at_below : (q : ℕ) (w is : List ℕ) → ((i : ℕ) → slice_index w i < q) → Below q (symbols_at w is)
 at_below q w [] low i l = absurd (omega arith)

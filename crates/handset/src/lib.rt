@@ -1,4 +1,4 @@
-// One C call that reads a page: the handset knows the code and the levels, and no floor.
+// One call that reads a page: the handset knows the code and the levels, and no floor. `handset_c` exports it to C.
 #![tactic(auto)]
 
 ghost use Rattle.handset.specs.Answers.{ReadBy, Handset};

@@ -5,7 +5,7 @@ use Rattle.alphabet.specs.Arithmetic.{Arithmetic}
 use Rattle.code.specs.Words.{BlockCode, Message, Carries, symbols_at, first, rest, mask_of}
 use Rattle.code.specs.Laws.{Ascending, CodeLaws}
 use Rattle.code.specs.Calls.{item}
-use Rattle.code.specs.Cells.{item_found, item_missing, length_at, get_d_at, length_rest}
+use Rattle.code.specs.Cells.{item_found, item_missing, length_at, slice_index_at, length_rest}
 use Rattle.masking.proofs.SymbolSums.{sum_is, negative_is}
 use Rattle.masking.proofs.Carriers.{some_information, word_low, mask_low, message_in, message_in_symbols, message_in_carried}
 
@@ -65,7 +65,7 @@ module _ (code : BlockCode) (laws : CodeLaws code) where
       let inside : k < length is = omega (arith, whole) in
       each k h
       ∙ laws.arithmetic.sum_comm (get_or word (get_or is k 0) 0) u (word_low code laws word held (get_or is k 0)) low
-      ∙ ap (code.arithmetic.sum u) (sym (get_d_at word is k inside))
+      ∙ ap (code.arithmetic.sum u) (sym (slice_index_at word is k inside))
       ∙ sym (get_or-map (code.arithmetic.sum u) (symbols_at word is) k 0 0 (omega (arith, length_at word is)))) in
       (subst (Message code) (sym same) (message_in_symbols code laws word held), subst (Carries code word) (sym same) (message_in_carried code laws word held))
 

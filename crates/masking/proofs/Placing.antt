@@ -5,7 +5,7 @@ use Rattle.std.proofs.lemmas.List.{ext_get_or, length-set, get_or-set_same, get_
 use Rattle.code.specs.Words.{BlockCode, Word, Message, symbols_at, first, rest}
 use Rattle.code.specs.Laws.{CodeLaws}
 use Rattle.code.specs.Calls.{item}
-use Rattle.code.specs.Cells.{below_set, length_at, get_d_at, at_split, length_rest, first_within}
+use Rattle.code.specs.Cells.{below_set, length_at, slice_index_at, at_split, length_rest, first_within}
 use Rattle.masking.proofs.Carriers.{some_symbol, some_information}
 use Rattle.masking.proofs.Information.{get_or_first, get_or_rest, cell_within, rest_cell}
 
@@ -55,4 +55,4 @@ module _ (code : BlockCode) (laws : CodeLaws code) (message : List ℕ) (symbols
       ∙ ap (λ (x : ℕ). x ∷ symbols_at word (rest code.information)) done.plain
       ∙ ap (λ (xs : List ℕ). 0 ∷ xs) (ext_get_or 0 (symbols_at word (rest code.information)) message (length_at word (rest code.information) ∙ sym symbols.whole) (λ k h.
       let inside : k < length (rest code.information) = omega (arith, length_at word (rest code.information)) in
-      get_d_at word (rest code.information) k inside ∙ done.placed k (omega (arith, symbols.whole))))
+      slice_index_at word (rest code.information) k inside ∙ done.placed k (omega (arith, symbols.whole))))

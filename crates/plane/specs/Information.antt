@@ -7,7 +7,7 @@ use Rattle.code.specs.Words.{symbols_at}
 use Rattle.code.specs.Laws.{Ascending}
 use Rattle.code.specs.Calls.{item}
 use Rattle.code.specs.Bare.{from}
-use Rattle.code.specs.Cells.{length_from, get_or_from, length_at, get_d_at, item_there}
+use Rattle.code.specs.Cells.{length_from, get_or_from, length_at, slice_index_at, item_there}
 use Rattle.plane.specs.Plane.{information_cells}
 
 module _ (q : ℕ) (two : 2 ≤ q) where
@@ -62,8 +62,8 @@ module _ (q : ℕ) (two : 2 ≤ q) where
     where
       through : (k : ℕ) → k < length (information_cells q) → slice_index (information_cells q) k ≡ i → slice_index v i ≡ slice_index w i
       through k l is =
-          ap (λ (j : ℕ). slice_index v j) (sym is) ∙ sym (get_d_at v (information_cells q) k l) ∙ ap (λ (xs : List ℕ). slice_index xs k) p
-          ∙ get_d_at w (information_cells q) k l ∙ ap (λ (j : ℕ). slice_index w j) is
+          ap (λ (j : ℕ). slice_index v j) (sym is) ∙ sym (slice_index_at v (information_cells q) k l) ∙ ap (λ (xs : List ℕ). slice_index xs k) p
+          ∙ slice_index_at w (information_cells q) k l ∙ ap (λ (j : ℕ). slice_index w j) is
 
   -- words that agree at every cell but 0, 1 and q have the same information
   pub same_information : (v w : List ℕ) → ((i : ℕ) → (i ≢ 0) → (i ≢ 1) → (i ≢ q) → slice_index v i ≡ slice_index w i) → symbols_at v (information_cells q) ≡ symbols_at w (information_cells q)
@@ -71,7 +71,7 @@ module _ (q : ℕ) (two : 2 ≤ q) where
       ext_get_or 0 (symbols_at v (information_cells q)) (symbols_at w (information_cells q)) (length_at v (information_cells q) ∙ sym (length_at w (information_cells q))) (λ k h.
       let inside : k < length (information_cells q) = omega (arith, length_at v (information_cells q)) in
       let place : ℕ = slice_index_or (information_cells q) k 0 in
-      get_d_at v (information_cells q) k inside
+      slice_index_at v (information_cells q) k inside
       ∙ elim (cases_lt (k + 2) q) [
         | inl low ↦
             let is : place ≡ k + 2 = information_low k low in
@@ -80,4 +80,4 @@ module _ (q : ℕ) (two : 2 ≤ q) where
             let is : place ≡ k + 3 = information_high k high (omega (arith, length_information)) in
             same place (λ p. omega arith) (λ p. omega arith) (λ p. omega arith)
       ]
-      ∙ sym (get_d_at w (information_cells q) k inside))
+      ∙ sym (slice_index_at w (information_cells q) k inside))

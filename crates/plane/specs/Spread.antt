@@ -7,7 +7,7 @@ use Rattle.std.proofs.lemmas.List.{length-append, length-take-le, length-drop, g
 use Rattle.std.proofs.lemmas.Bool.{cases_eq, cases_lt}
 use Rattle.code.specs.Words.{symbols_at}
 use Rattle.plane.specs.Plane.{information_cells}
-use Rattle.code.specs.Cells.{Below, below_anywhere, length_at, get_d_at}
+use Rattle.code.specs.Cells.{Below, below_anywhere, length_at, slice_index_at}
 use Rattle.plane.specs.Information.{two_rows, length_information, information_low, information_high}
 
 -- the information in place, 0 in the check cells
@@ -71,7 +71,7 @@ module _ (q : ℕ) (two : 2 ≤ q) (xs : List ℕ) (long : length xs + 3 ≡ q *
       let len : length (symbols_at w (information_cells q)) ≡ length xs = omega (arith, length_at w (information_cells q), length_information q two) in
       ext_get_or 0 (symbols_at w (information_cells q)) xs len (λ k h.
       let inside : k < length (information_cells q) = omega (arith, length_at w (information_cells q)) in
-      get_d_at w (information_cells q) k inside
+      slice_index_at w (information_cells q) k inside
       ∙ elim (cases_lt (k + 2) q) [
         | inl low ↦
             let place : slice_index_or (information_cells q) k 0 ≡ suc (suc k) = information_low q two k low ∙ omega arith in

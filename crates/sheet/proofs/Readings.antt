@@ -135,7 +135,7 @@ never line l (IllFormedField column) p q =
 never line l SheetLength p q = q
 never line l OutOfTurn p q = q
 
--- the first ill_formed field is one
+-- the first ill-formed field is one
 not_before : (cs : List ℕ) (a b : ℕ) (p : FirstIll cs a) (q : FirstIll cs b) → p.index < q.index → ⊥
 not_before cs a b p q l = let w = q.before p.index l in p.ill w.0 w.1
 

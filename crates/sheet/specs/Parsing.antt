@@ -1,4 +1,4 @@
--- What a line says, and when it is refused: for its length, else its verb, else the count of its fields, else its first ill_formed field. Assumes nothing.
+-- What a line says, and when it is refused: for its length, else its verb, else the count of its fields, else its first ill-formed field. Assumes nothing.
 use Rattle.std.specs.Prelude.{◌≡◌, ℕ, ◌+◌, ◌*◌, ◌<◌, ◌≤◌, List, [], ◌∷◌, length, take, drop, Ok, Err, Result, ◌≢◌}
 use Rattle.sheet.specs.declared.refusals.Refusal.{Refusal}
 use Rattle.sheet.specs.declared.refusals.Refusal.TheVariants.{SheetLength, LineLength, UnknownVerb, FieldCount, IllFormedField, OutOfTurn}

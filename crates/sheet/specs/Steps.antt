@@ -13,7 +13,7 @@ abbrev pub Next : List ℕ → (index : ℕ) → Result (ℕ × Bor (List ℕ)) 
 Next columns index (Ok p) = Shows (take 4 columns) p.0 × (p.1.now ≡ drop 4 columns)
 Next columns index (Err e) = (e ≡ IllFormedField (5 + 4 * index)) × IllFormed (take 4 columns)
 
--- the columns begin with the line's field of the index from; the refusal names the first ill_formed field in so many bytes of them
+-- the columns begin with the line's field of the index from; the refusal names the first ill-formed field in so many bytes of them
 pub record IllWithin (bytes : ℕ) (columns : List ℕ) (from : ℕ) (e : Refusal) : Type 0 where
   pub index : ℕ
   pub names : e ≡ IllFormedField (5 + 4 * (from + index))
