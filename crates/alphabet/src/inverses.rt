@@ -10,10 +10,5 @@ const ONE: u8 = 1;
 pub(crate) fn find_inverse<S: Alphabet>(alphabet: &S, a: u8) -> Option<u8>
     ensures { result ≡ inverse_in (S.meaning alphabet.now) (a % (S.meaning alphabet.now).size) }
 {
-    for x in 0..alphabet.size() {
-        if alphabet.product(a, x) == ONE {
-            return Some(x);
-        }
-    }
-    None
+    (0..alphabet.size()).find(|x| alphabet.product(a, *x) == ONE)
 }

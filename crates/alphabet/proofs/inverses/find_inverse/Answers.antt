@@ -1,15 +1,11 @@
-use Rattle.std.proofs.Common.{◌%◌, ◌<◌, ◌∙◌, arith}
-use Rattle.alphabet.proofs.Search.{found, passed}
+use Rattle.std.proofs.Common.{rules, ◌≡◌, ◌≢◌, ◌%◌, ℕ}
+use Rattle.std.proofs.lemmas.Iterator.{first_from_Range}
+use Rattle.alphabet.proofs.Search.{inverse_found}
 use Rattle.alphabet.proofs.inverses.find_inverse.Goals as goal
 
-pub returns-then-product-eq-ONE : goal.returns-then-product-eq-ONE
-returns-then-product-eq-ONE g c =
+pub returns : goal.returns
+returns g c =
     let m = g.S.Alphabet.meaning c.args.alphabet.now in
-    let below : c.loop-x.x < m.size = omega (arith, c.size-x-end.ensures, c.loop-x-test.true) in
-    found m (c.args.a % m.size) c.loop-x.x _ below c.product.ensures c.if-product-eq-ONE.true ∙ c.loop-x.invariant
-
-pub loop-x-preserved : goal.loop-x-preserved
-loop-x-preserved g c =
-    let m = g.S.Alphabet.meaning c.args.alphabet.now in
-    let below : c.loop-x.x < m.size = omega (arith, c.size-x-end.ensures, c.loop-x-test.true) in
-    passed m (c.args.a % m.size) c.loop-x.x _ below c.product.ensures c.if-product-eq-ONE.false ∙ c.loop-x.invariant
+    let a : ℕ = c.args.a % m.size in
+    inverse_found m a c.find.result c.size.result c.size.ensures
+    (first_from_Range _ _ _ _ (λ x. m.product a (x % m.size) ≡ 1) (λ x. m.product a (x % m.size) ≢ 1) c.find.ensures.ran (λ x q k. search rules) (λ x q k. search rules))
