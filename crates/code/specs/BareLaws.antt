@@ -1,8 +1,9 @@
 -- The Bare code over any alphabet is a lawful code. Assumes nothing.
-use Rattle.std.specs.Prelude.{◌≡◌, ℕ, ◌<◌, ◌≤◌, true, List, map, length, Some, None, Ok, Err, Result, ◌==◌, slice_index, refl}
-use Rattle.std.proofs.Common.{ap, sym, ◌∙◌, subst, ⊎_elim, arith}
+use Rattle.std.specs.Prelude.{◌≡◌, ℕ, ◌<◌, ◌≤◌, true, List, map, length, Some, Ok, Err, Result, ◌==◌, nat_lt, slice_index, refl}
+use Rattle.std.proofs.Common.{ap, sym, ◌∙◌, subst, inl, inr, ⊎_elim, arith}
+use Rattle.std.specs.Bool.{then_some}
 use Rattle.std.proofs.lemmas.List.{ext_get_or, length-map, get_or-map}
-use Rattle.std.proofs.lemmas.Bool.{and_parts, and_from, eqb-true, eq-eqb, cases_eq}
+use Rattle.std.proofs.lemmas.Bool.{and_parts, and_from, eqb-true, eq-eqb, cases_eq, cases_lt, lt-ltb, le-ltb}
 use Rattle.alphabet.specs.Arithmetic.{Arithmetic, Lawful}
 use Rattle.alphabet.specs.declared.refusals.Refusal.{Refusal}
 use Rattle.code.specs.Words.{Filled, Word, symbols_at, differences}
@@ -22,11 +23,14 @@ all_cells w =
     ∙ ap (λ (i : ℕ). slice_index w i) (get_or_from 0 (length w) k inside ∙ omega arith))
 
 -- the information cell of an index is the cell of that index
-pub item_run : (n i : ℕ) → i < n → item (from 0 n) i ≡ Some i
-item_run n i h = item_there (from 0 n) i (omega (arith, length_from 0 n)) ∙ ap (λ k. Some k) (get_or_from 0 n i h ∙ omega arith)
-
-pub item_past_run : (n i : ℕ) → n ≤ i → item (from 0 n) i ≡ None
-item_past_run n i h = item_past (from 0 n) i (omega (arith, length_from 0 n))
+pub item_run : (n i : ℕ) → then_some (nat_lt i n) i ≡ item (from 0 n) i
+item_run n i =
+    elim (cases_lt i n) [
+      | inl low ↦
+          ap (λ b. then_some b i) (lt-ltb i n low)
+          ∙ sym (item_there (from 0 n) i (omega (arith, length_from 0 n)) ∙ ap (λ k. Some k) (get_or_from 0 n i low ∙ omega arith))
+      | inr high ↦ ap (λ b. then_some b i) (le-ltb i n high) ∙ sym (item_past (from 0 n) i (omega (arith, length_from 0 n)))
+    ]
 
 module _ (m : Arithmetic) (laws : Lawful m) (n : ℕ) where
   pub word_from : (w : List ℕ) → (bare m n).holds w ≡ true → Word (bare m n) w

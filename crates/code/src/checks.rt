@@ -10,10 +10,8 @@ pub fn check_word(cells: usize, size: u8, word: &[u8]) -> Result<(), Refusal>
     if word.len() != cells {
         return Err(Refusal::WordLength { length: word.len() });
     }
-    for (index, symbol) in word.iter().enumerate() {
-        if *symbol >= size {
-            return Err(Refusal::NotASymbol { index });
-        }
+    match word.iter().position(|symbol| *symbol >= size) {
+        Some(index) => Err(Refusal::NotASymbol { index }),
+        None => Ok(()),
     }
-    Ok(())
 }

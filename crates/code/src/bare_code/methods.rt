@@ -4,9 +4,9 @@ ghost use Rattle.alphabet.specs.declared.refusals.Refusal.TheVariants.{BareLengt
 ghost use Rattle.code.specs.Bare.{bare};
 ghost use Rattle.code.specs.BareLaws.{bare_laws};
 
-use super::super::checks::check_word;
-use super::super::traits::{Code, FEWEST_CELLS, MOST_CELLS};
 use super::Bare;
+use crate::checks::check_word;
+use crate::traits::{Code, FEWEST_CELLS, MOST_CELLS};
 use alphabet::{Alphabet, Refusal};
 
 impl<A: Drop> Bare<A> {
@@ -14,7 +14,7 @@ impl<A: Drop> Bare<A> {
     pub fn new(alphabet: A, cells: usize) -> Result<Bare<A>, Refusal>
         ensures { MatchResult result (λ b. (b.alphabet ≡ alphabet) × (b.cells ≡ cells)) (λ e. (e ≡ BareLength cells) × ((2 ≤ cells) × (cells ≤ 256) → ⊥)) }
     {
-        if cells < FEWEST_CELLS || cells > MOST_CELLS {
+        if !(FEWEST_CELLS..=MOST_CELLS).contains(&cells) {
             return Err(Refusal::BareLength { length: cells });
         }
         Ok(Bare { alphabet, cells })
@@ -45,11 +45,7 @@ impl<A: Alphabet> Code for Bare<A> {
     }
 
     fn information_cell(&self, index: usize) -> Option<usize> {
-        if index < self.cells {
-            Some(index)
-        } else {
-            None
-        }
+        (index < self.cells).then_some(index)
     }
 
     fn complete(&self, word: &mut [u8]) -> Result<(), Refusal> {
