@@ -7,7 +7,7 @@ ghost use Rattle.runs.specs.Lived.{BenchContinuesAll, ContinuesAll, Lived};
 use super::performs::{perform, set_floor};
 use super::replies::Reply;
 use super::requests::{BenchFloor, Request};
-use card::{Bench, Fault, Service};
+use card::{Bench, Fault, Refusal, Service};
 use code::Code;
 use std::alloc::Global;
 
@@ -15,8 +15,8 @@ use std::alloc::Global;
 #[derive(Drop)]
 pub struct Life<C> {
     pub card: Service<C>,
-    pub bench: Vec<Reply>,
-    pub replies: Vec<Reply>,
+    pub bench: Vec<Result<(), Refusal>>,
+    pub replies: Vec<Result<Reply, Refusal>>,
 }
 
 /// Makes a card of this code, gives it these floors, opens it, and makes these calls.
@@ -46,15 +46,15 @@ fn take_floors<C: Code>(
     card: &mut Bench<C>,
     heap: Global,
     floors: &[BenchFloor],
-) -> Result<Vec<Reply>, Fault>
+) -> Result<Vec<Result<(), Refusal>>, Fault>
     ensures { MatchResult result (λ v. (vec_len v ≡ length floors.now) × BenchContinuesAll C.Code.meaning card.old floors.now v.items card.new) (λ e. e ≡ Memory) }
 {
-    let mut replies = Vec::new(heap);
+    let mut answers = Vec::new(heap);
     for floor in floors {
-        let reply = set_floor(card, *floor);
-        replies.push(reply)?;
+        let answer = set_floor(card, *floor);
+        answers.push(answer)?;
     }
-    Ok(replies)
+    Ok(answers)
 }
 
 /// Makes every call in order, and gathers the answers.
@@ -62,13 +62,13 @@ fn serve<C: Code>(
     card: &mut Service<C>,
     heap: Global,
     calls: &[Request<'_>],
-) -> Result<Vec<Reply>, Fault>
+) -> Result<Vec<Result<Reply, Refusal>>, Fault>
     ensures { MatchResult result (λ v. (vec_len v ≡ length calls.now) × ContinuesAll C.Code.meaning card.old calls.now v.items card.new) (λ e. e ≡ Memory) }
 {
     let mut replies = Vec::new(heap);
     for request in calls {
-        let reply = perform(card, heap, *request)?;
-        replies.push(reply)?;
+        let answer = perform(card, heap, *request)?;
+        replies.push(answer)?;
     }
     Ok(replies)
 }

@@ -1,55 +1,49 @@
 // Calls made from values.
 ghost use Rattle.std.specs.Prelude.{◌≡◌, MatchResult};
-ghost use Rattle.card.specs.History.{BenchContinues, Continues};
+ghost use Rattle.card.specs.History.{BenchContinues, Continues, note_answer};
 ghost use Rattle.runs.specs.Told.{bench_call, call_of, answer_of, WantsMemory};
 
 use super::replies::Reply;
 use super::requests::{BenchFloor, Request};
-use card::{Bench, Service};
+use card::{Bench, Refusal, Service};
 use code::Code;
 use std::alloc::{AllocError, Global};
 
 /// Takes a bench floor.
-pub fn set_floor<C: Code>(card: &mut Bench<C>, floor: BenchFloor) -> Reply
-    ensures { BenchContinues C.Code.meaning card.old (bench_call floor) (answer_of result) card.new }
+pub fn set_floor<C: Code>(card: &mut Bench<C>, floor: BenchFloor) -> Result<(), Refusal>
+    ensures { BenchContinues C.Code.meaning card.old (bench_call floor) (note_answer result) card.new }
 {
-    match card.set_floor(floor.page, floor.cell, floor.floor) {
-        Ok(()) => Reply::Done,
-        Err(refusal) => Reply::Refused { refusal },
-    }
+    card.set_floor(floor.page, floor.cell, floor.floor)
 }
 
-/// Makes a call. A read's buffer is got first, so that want of memory leaves the card as it was.
+/// Makes a call: the outer error is want of memory, the inner one the card's refusal. A read's buffer is got first, so that
+/// want of memory leaves the card as it was.
 pub fn perform<C: Code>(
     card: &mut Service<C>,
     heap: Global,
     request: Request<'_>,
-) -> Result<Reply, AllocError>
+) -> Result<Result<Reply, Refusal>, AllocError>
     ensures { MatchResult result (λ a. Continues C.Code.meaning card.old (call_of request.entry) (answer_of a) card.new) (λ _. WantsMemory request.entry × (card.new ≡ card.old)) }
 {
     match request {
-        Request::Save { page, symbols } => match card.save(page, symbols) {
-            Ok((mask, forced)) => Ok(Reply::Stored { mask, forced }),
-            Err(refusal) => Ok(Reply::Refused { refusal }),
-        },
+        Request::Save { page, symbols } => {
+            let saved = card.save(page, symbols);
+            Ok(saved.map(|(mask, forced)| Reply::Stored { mask, forced }))
+        }
         Request::Read { page, room } => {
             let mut message = vec![in heap; 0u8; room]?;
-            match card.read(page, message.as_mut_slice()) {
-                Ok(corrected) => Ok(Reply::Found { corrected, message }),
-                Err(refusal) => Ok(Reply::Refused { refusal }),
-            }
+            let read = card.read(page, message.as_mut_slice());
+            Ok(read.map(|corrected| Reply::Found { corrected, message }))
         }
-        Request::Compare { one, other } => match card.compare(one, other) {
-            Ok(same) => Ok(Reply::Compared { same }),
-            Err(refusal) => Ok(Reply::Refused { refusal }),
-        },
-        Request::Wear { page, cell, floor } => match card.note_wear(page, cell, floor) {
-            Ok(()) => Ok(Reply::Done),
-            Err(refusal) => Ok(Reply::Refused { refusal }),
-        },
-        Request::Drift { page, cell, level } => match card.note_drift(page, cell, level) {
-            Ok(()) => Ok(Reply::Done),
-            Err(refusal) => Ok(Reply::Refused { refusal }),
-        },
+        Request::Compare { one, other } => {
+            let compared = card.compare(one, other);
+            Ok(compared.map(|same| Reply::Compared { same }))
+        }
+        Request::Wear { page, cell, floor } => {
+            Ok(card.note_wear(page, cell, floor).map(|()| Reply::Done))
+        }
+        Request::Drift { page, cell, level } => {
+            Ok(card.note_drift(page, cell, level).map(|()| Reply::Done))
+        }
     }
 }

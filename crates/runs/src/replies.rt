@@ -1,10 +1,9 @@
-// What the calls of a card answer, as values.
-use card::Refusal;
+// What the calls of a card answer where they are granted, as values.
 
-/// The answer to a call.
-#[derive(Drop)]
+/// The answer to a call that is granted.
+#[derive(Debug, PartialEq, Eq, Drop)]
 pub enum Reply {
-    /// A floor or a note is taken.
+    /// A note is taken.
     Done,
     /// A message is saved under this mask, with so many cells forced.
     Stored { mask: u8, forced: usize },
@@ -12,6 +11,4 @@ pub enum Reply {
     Found { corrected: usize, message: Vec<u8> },
     /// Two pages read to the same message, or do not.
     Compared { same: bool },
-    /// The call is refused.
-    Refused { refusal: Refusal },
 }

@@ -1,7 +1,7 @@
 // The calls of a card as values.
 
 /// A floor for a cell at the bench.
-#[derive(Clone, Copy)]
+#[derive(Clone, Copy, Debug, PartialEq, Eq)]
 pub struct BenchFloor {
     pub page: usize,
     pub cell: usize,
@@ -9,7 +9,7 @@ pub struct BenchFloor {
 }
 
 /// A call of a card in service.
-#[derive(Clone, Copy)]
+#[derive(Clone, Copy, Debug, PartialEq, Eq)]
 pub enum Request<'a> {
     /// Save these symbols.
     Save {
