@@ -1,23 +1,8 @@
 -- Cutting a sheet: the first line, the lines one after another, that they are the only ones, and that a last line without a line feed counts.
-use Rattle.std.proofs.Common.{◌≡◌, ℕ, suc, ◌+◌, ◌-◌, ◌<◌, ◌≤◌, List, [], ◌∷◌, ◌++◌, length, get_or, take, drop, sym, refl, ap, ◌∙◌, subst, inl, inr, ⊎_elim, append_assoc, append-nil, arith, length-append, length-take-le, Bor}
-use Rattle.std.proofs.lemmas.List.{get_or-take, get_or_at, get_or-append-add, nil_from_length}
-use Rattle.std.proofs.lemmas.Slice.{first_rest}
-use Rattle.std.proofs.lemmas.Bool.{cases_lt}
-use Rattle.sheet.specs.Cutting.{NoFeed, Cut, LinesOf, texts, ended, Unended, OnlyLines, Rejoined, AllLines}
-
-pub plain_front : (s line : List ℕ) (n : ℕ) → line ≡ take n s → n ≤ length s → ((k : ℕ) → k < n → get_or s k 0 ≡ 10 → ⊥) → NoFeed line
-plain_front s line n e l before i lt at =
-    let h : i < n = omega (arith, ap length e, length-take-le n s l) in
-    before i h (sym (get_or-take n s i 0 h) ∙ sym (ap (λ k. get_or k i 0) e) ∙ at)
-
-pub at_feed : (s line back : List ℕ) → s ≡ line ++ back → 0 < length back → get_or back 0 0 ≡ 10 → s ≡ line ++ 10 ∷ take (length back - 1) (drop 1 back)
-at_feed s line back e l at = e ∙ ap (λ k. line ++ k) (first_rest back 0 l ∙ ap (λ x. x ∷ take (length back - 1) (drop 1 back)) at)
-
-pub at_end : (s line back : List ℕ) → s ≡ line ++ back → length back ≡ 0 → 0 < length s → (s ≡ line) × (back ≡ []) × (0 < length line)
-at_end s line back e l some =
-    let none = nil_from_length back l in
-    let same : s ≡ line = e ∙ ap (λ k. line ++ k) none ∙ append-nil line in
-    (same, none, omega (arith, ap length same))
+use Rattle.std.proofs.Common.{◌≡◌, ℕ, zero, suc, ◌+◌, ◌-◌, ◌<◌, ◌==◌, List, [], ◌∷◌, ◌++◌, length, get_or, sym, refl, ap, ◌∙◌, subst, inl, inr, ⊎_elim, append_assoc, arith, length-append}
+use Rattle.std.proofs.lemmas.List.{get_or_at, get_or-append-add, nil_from_length}
+use Rattle.std.proofs.lemmas.Bool.{cases_lt, cond_both, eqb-true, eqb-false}
+use Rattle.sheet.specs.Cutting.{NoFeed, Cut, LinesOf, lines_of, put_first, ended, Unended, OnlyLines, Rejoined, AllLines}
 
 -- a line that is cut off leaves less
 pub shorter : (rest line after : List ℕ) → Cut rest line after → length after < length rest
@@ -26,17 +11,6 @@ shorter rest line after cut =
     (λ e. omega (arith, ap length e, length-append line (10 ∷ after)))
     (λ e. omega (arith, ap length e.0, ap length e.1, e.2))
     cut.1
-
--- whatever lines the rest has, they are the sheet's after the lines so far
-abbrev pub Sofar : List ℕ → List (Bor (List ℕ)) → List ℕ → Type 0
-Sofar sheet ls rest = (more : List (List ℕ)) → LinesOf more rest → LinesOf (texts ls ++ more) sheet
-
-texts_push : (ls : List (Bor (List ℕ))) (l : Bor (List ℕ)) (more : List (List ℕ)) → texts ls ++ (l.now ∷ more) ≡ texts (ls ++ l ∷ []) ++ more
-texts_push [] l more = refl
-texts_push (x ∷ ls) l more = ap (λ k. x.now ∷ k) (texts_push ls l more)
-
-pub one_more : (sheet : List ℕ) (ls : List (Bor (List ℕ))) (rest after : List ℕ) (l : Bor (List ℕ)) → Sofar sheet ls rest → Cut rest l.now after → Sofar sheet (ls ++ l ∷ []) after
-one_more sheet ls rest after l h cut more m = subst (λ k. LinesOf k sheet) (texts_push ls l more) (h (l.now ∷ more) (after, cut, m))
 
 -- a line has a byte of the sheet
 some : (line : List ℕ) (lines : List (List ℕ)) (sheet : List ℕ) → LinesOf (line ∷ lines) sheet → sheet ≡ [] → ⊥
@@ -147,6 +121,31 @@ all_lines lines sheet h = record {
   rejoined = rejoin lines sheet h;
 }
 
--- once nothing is left, the lines so far are all of them
-pub done : (sheet : List ℕ) (ls : List (Bor (List ℕ))) (rest : List ℕ) → Sofar sheet ls rest → rest ≡ [] → AllLines (texts ls) sheet
-done sheet ls rest h e = all_lines (texts ls) sheet (subst (λ k. LinesOf k sheet) (append-nil (texts ls)) (h [] e))
+-- a byte more at the front of a line
+plain_more : (byte : ℕ) (line : List ℕ) → (byte ≡ 10 → ⊥) → NoFeed line → NoFeed (byte ∷ line)
+plain_more byte line other plain zero lt at = other at
+plain_more byte line other plain (suc i) lt at = plain i (omega arith) at
+
+put_byte : (byte : ℕ) (lines : List (List ℕ)) (sheet : List ℕ) → (byte ≡ 10 → ⊥) → LinesOf lines sheet → LinesOf (put_first byte lines) (byte ∷ sheet)
+put_byte byte [] sheet other h =
+    ([], (plain_more byte [] other (λ i lt. absurd (omega arith)), inr (ap (λ k. byte ∷ k) h, refl, omega arith)), refl)
+put_byte byte (line ∷ lines) sheet other h = (
+  h.0,
+  (plain_more byte line other h.1.0, ⊎_elim (λ e. inl (ap (λ k. byte ∷ k) e)) (λ e. inr (ap (λ k. byte ∷ k) e.0, e.1, omega arith)) h.1.1),
+  h.2,
+)
+
+-- the lines of a sheet, byte by byte, are those that it is cut into
+are_cut : (sheet : List ℕ) → LinesOf (lines_of sheet) sheet
+are_cut [] = refl
+are_cut (byte ∷ sheet) =
+    cond_both (byte == 10) ([] ∷ lines_of sheet) (put_first byte (lines_of sheet)) (λ lines. LinesOf lines (byte ∷ sheet))
+    (λ e. (sheet, (λ i lt. absurd (omega arith), inl (ap (λ b. b ∷ sheet) (eqb-true byte 10 e))), are_cut sheet))
+    (λ e. put_byte byte (lines_of sheet) sheet (eqb-false byte 10 e) (are_cut sheet))
+
+pub all_cut : (sheet : List ℕ) → AllLines (lines_of sheet) sheet
+all_cut sheet = all_lines (lines_of sheet) sheet (are_cut sheet)
+
+-- the first line, and the lines of what follows it
+pub first_cut : (sheet line rest : List ℕ) → Cut sheet line rest → lines_of sheet ≡ line ∷ lines_of rest
+first_cut sheet line rest cut = sym (only (lines_of sheet) sheet (are_cut sheet) (line ∷ lines_of rest) (rest, cut, are_cut rest))

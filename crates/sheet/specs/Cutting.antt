@@ -1,5 +1,5 @@
 -- The lines of a sheet: a line feed ends a line, and bytes after the last line feed are a last line. Assumes nothing.
-use Rattle.std.specs.Prelude.{◌≡◌, ℕ, ◌-◌, ◌<◌, ◌⊎◌, List, [], ◌∷◌, ◌++◌, length, Some, None, Option, ◌≢◌, slice_index}
+use Rattle.std.specs.Prelude.{◌≡◌, ℕ, ◌-◌, ◌<◌, cond, ◌==◌, ◌⊎◌, List, [], ◌∷◌, ◌++◌, map, length, Some, None, Option, ◌≢◌, slice_index}
 use Rattle.std.specs.Borrow.{Bor}
 
 -- no line feed stands in the line
@@ -27,8 +27,17 @@ LinesOf (line ∷ lines) sheet = (rest : List ℕ) × Cut sheet line rest × Lin
 
 -- lines that are borrowed, as bytes
 abbrev pub texts : List (Bor (List ℕ)) → List (List ℕ)
-texts [] = []
-texts (line ∷ lines) = line.now ∷ texts lines
+texts = map (λ line. line.now)
+
+-- a byte put before the first of the lines
+abbrev pub put_first : ℕ → List (List ℕ) → List (List ℕ)
+put_first byte [] = (byte ∷ []) ∷ []
+put_first byte (line ∷ more) = (byte ∷ line) ∷ more
+
+-- the lines of the sheet, byte by byte
+abbrev pub lines_of : List ℕ → List (List ℕ)
+lines_of [] = []
+lines_of (byte ∷ sheet) = cond (byte == 10) ([] ∷ lines_of sheet) (put_first byte (lines_of sheet))
 
 -- the lines, each with a line feed after it
 abbrev pub ended : List (List ℕ) → List ℕ

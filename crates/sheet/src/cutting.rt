@@ -1,22 +1,9 @@
 // A sheet's lines: a line feed ends a line, and bytes after the last line feed are a last line.
-ghost use Rattle.std.specs.Prelude.{◌≡◌, ℕ, ◌<◌, ◌≤◌, length, IfOk, ◌≢◌, slice_index};
-ghost use Rattle.sheet.specs.Cutting.{FirstCut, NextCut, AllLines, texts};
+ghost use Rattle.std.specs.Prelude.{◌≡◌, ◌<◌, length, IfOk};
+ghost use Rattle.std.specs.Iterator.{YieldsFirstRef, item_count};
+ghost use Rattle.sheet.specs.Cutting.{FirstCut, NextCut, AllLines, lines_of, texts};
 
 use std::alloc::{AllocError, Global};
-
-/// How many bytes stand before the first line feed.
-fn line_len(s: &[u8]) -> usize
-    ensures within { result ≤ length s.now }
-    ensures before { (k : ℕ) → k < result → slice_index s.now k ≢ 10 }
-    ensures found { result < length s.now → slice_index s.now result ≡ 10 }
-{
-    for (i, b) in s.iter().enumerate() {
-        if *b == b'\n' {
-            return i;
-        }
-    }
-    s.len()
-}
 
 /// The first line, and the bytes after it.
 pub fn cut_line<'a>(sheet: &'a [u8]) -> Option<(&'a [u8], &'a [u8])>
@@ -25,10 +12,9 @@ pub fn cut_line<'a>(sheet: &'a [u8]) -> Option<(&'a [u8], &'a [u8])>
     if sheet.is_empty() {
         return None;
     }
-    let (line, after) = sheet.split_at(line_len(sheet));
-    match after {
-        [_, rest @ ..] => Some((line, rest)),
-        [] => Some((line, after)),
+    match sheet.iter().position(|b| *b == b'\n') {
+        Some(feed) => Some((&sheet[..feed], &sheet[feed + 1..])),
+        None => Some((sheet, &[])),
     }
 }
 
@@ -44,10 +30,17 @@ impl<'a> Lines<'a> {
     {
         Lines { rest: sheet }
     }
+}
 
-    /// The next line.
-    pub fn next_line(&mut self) -> Option<&'a [u8]>
-        ensures { NextCut self.old.rest.now result self.new.rest.now }
+impl<'a> Iterator for Lines<'a> {
+    type Item = &'a [u8];
+
+    ghost next_gives = { YieldsFirstRef (λ s. lines_of s.rest.now) };
+
+    ghost remaining = { item_count (λ s. lines_of s.rest.now) };
+
+    fn next(&mut self) -> Option<&'a [u8]>
+        ensures cut { NextCut self.old.rest.now result self.new.rest.now }
     {
         let (line, rest) = cut_line(self.rest)?;
         self.rest = rest;
@@ -59,11 +52,5 @@ impl<'a> Lines<'a> {
 pub fn all_lines<'a>(heap: Global, sheet: &'a [u8]) -> Result<Vec<&'a [u8]>, AllocError>
     ensures { IfOk result (λ v. AllLines (texts v.items) sheet.now) }
 {
-    let mut all = Vec::new(heap);
-    let mut rest = sheet;
-    while let Some((line, after)) = cut_line(rest) {
-        all.push(line)?;
-        rest = after;
-    }
-    Ok(all)
+    Lines::new(sheet).collect(heap)
 }
