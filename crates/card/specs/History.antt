@@ -4,8 +4,9 @@ use Rattle.code.specs.Words.{BlockCode}
 use Rattle.ledger.specs.Ledger as ledger
 use Rattle.ledger.specs.Ledger.{Made, page_of, BenchCall, Call, Answer, done, stored, found, compared, refused, AtBench, InService}
 use Rattle.card.specs.declared.page.Page.{Page}
-use Rattle.card.specs.declared.cards.Bench.{Bench}
-use Rattle.card.specs.declared.cards.Service.{Service}
+use Rattle.card.specs.declared.cards.Benched.{Benched}
+use Rattle.card.specs.declared.cards.Card.{Card}
+use Rattle.card.specs.declared.cards.Serving.{Serving}
 use Rattle.card.specs.declared.refusals.Refusal.{Refusal}
 use Rattle.card.specs.Refusals.{number, layer, place}
 
@@ -28,22 +29,22 @@ pub record Shows {C : Type 0} (meaning : C → BlockCode) (code : C) (allowance 
   pub rows : length l ≡ made.pages
   pub each : (i : ℕ) (d : Page) → i < made.pages → Like (slice_index_or pages i d) (page_of made l i)
 
-abbrev pub BenchShows : {C : Type 0} (meaning : C → BlockCode) → Bench C → Made → List ledger.Page → Type 0
-BenchShows meaning b made l = Shows meaning b.code b.allowance (vec_items b.pages) made l
+-- a card has that at either stage
+abbrev pub CardShows : {C S : Type 0} (meaning : C → BlockCode) → Card C S → Made → List ledger.Page → Type 0
+CardShows meaning card made l = Shows meaning card.code card.allowance (vec_items card.pages) made l
 
-abbrev pub ServiceShows : {C : Type 0} (meaning : C → BlockCode) → Service C → Made → List ledger.Page → Type 0
-ServiceShows meaning s made l = Shows meaning s.code s.allowance (vec_items s.pages) made l
+-- whatever history of this kind led to the card, the same and this call with this answer lead to the card after it
+abbrev pub OneMore : {C S K : Type 0} (meaning : C → BlockCode) → Made → (List (K × Answer) → List ledger.Page → Type 0) → Card C S → K → Answer → Card C S → Type 0
+OneMore {K = K} meaning made Led card call a card' =
+    (past : List (K × Answer)) (l : List ledger.Page) → Led past l → CardShows meaning card made l → (l' : List ledger.Page) × Led ((call, a) ∷ past) l' × CardShows meaning card' made l'
 
--- whatever history led to the card at the bench, the same and this call with this answer lead to the card after it
-abbrev pub BenchContinues : {C : Type 0} (meaning : C → BlockCode) → Bench C → BenchCall → Answer → Bench C → Type 0
-BenchContinues meaning b call a b' =
-    (made : Made) (past : List (BenchCall × Answer)) (l : List ledger.Page) → AtBench made past l → BenchShows meaning b made l → (l' : List ledger.Page) × AtBench made ((call, a) ∷ past) l' × BenchShows meaning b' made l'
+-- at the bench
+abbrev pub BenchContinues : {C : Type 0} (meaning : C → BlockCode) → Card C Benched → BenchCall → Answer → Card C Benched → Type 0
+BenchContinues meaning b call a b' = (made : Made) → OneMore meaning made (AtBench made) b call a b'
 
 -- and in service
-abbrev pub Continues : {C : Type 0} (meaning : C → BlockCode) → Service C → Call → Answer → Service C → Type 0
-Continues meaning s call a s' =
-    (made : Made) (bench : List (BenchCall × Answer)) (past : List (Call × Answer)) (l : List ledger.Page) → InService made bench past l → ServiceShows meaning s made l
-    → (l' : List ledger.Page) × InService made bench ((call, a) ∷ past) l' × ServiceShows meaning s' made l'
+abbrev pub Continues : {C : Type 0} (meaning : C → BlockCode) → Card C Serving → Call → Answer → Card C Serving → Type 0
+Continues meaning s call a s' = (made : Made) (bench : List (BenchCall × Answer)) → OneMore meaning made (InService made bench) s call a s'
 
 -- what the ledger is answered where a call answers so
 abbrev pub refusal_answer : Refusal → Answer
@@ -92,9 +93,9 @@ FetchedInLedger made l page (Ok corrected) message = ledger.Readable made l page
 FetchedInLedger made l page (Err e) message = ledger.Unreadable made l page (refusal_answer e)
 
 -- whatever history led to the card, what is fetched of a page is the ledger's
-abbrev pub Fetches : {C : Type 0} (meaning : C → BlockCode) → Service C → (page : ℕ) → Result ℕ Refusal → (after : List ℕ) → Type 0
+abbrev pub Fetches : {C : Type 0} (meaning : C → BlockCode) → Card C Serving → (page : ℕ) → Result ℕ Refusal → (after : List ℕ) → Type 0
 Fetches meaning s page r after =
-    (made : Made) (bench : List (BenchCall × Answer)) (past : List (Call × Answer)) (l : List ledger.Page) → InService made bench past l → ServiceShows meaning s made l
+    (made : Made) (bench : List (BenchCall × Answer)) (past : List (Call × Answer)) (l : List ledger.Page) → InService made bench past l → CardShows meaning s made l
     → FetchedInLedger made l page r after
 
 -- a refused read leaves the buffer as it was

@@ -3,22 +3,23 @@ use Rattle.std.specs.Prelude.{◌≡◌, ℕ, ◌<◌, ◌≤◌}
 use Rattle.code.specs.Words.{BlockCode}
 use Rattle.masking.specs.declared.refusals.Refusal.TheVariants as masking
 use Rattle.ledger.specs.Ledger.{blank_pages}
-use Rattle.card.specs.declared.cards.Bench.{Bench}
+use Rattle.card.specs.declared.cards.Benched.{Benched}
+use Rattle.card.specs.declared.cards.Card.{Card}
 use Rattle.card.specs.declared.faults.Fault.{Fault}
 use Rattle.card.specs.declared.faults.Fault.TheVariants.{Asked, Memory}
 use Rattle.card.specs.declared.refusals.Refusal.{Refusal}
 use Rattle.card.specs.declared.refusals.Refusal.TheVariants.{Masking, PageCount, NoPage, NoCell, NoLevel, Blank, BelowFloor}
-use Rattle.card.specs.History.{made_from, BenchShows}
+use Rattle.card.specs.History.{made_from, CardShows}
 
 -- a card has 1 to 16 pages
 abbrev pub Pages : ℕ → Type 0
 Pages n = (1 ≤ n) × (n ≤ 16)
 
 -- a new card of this code: its pages are blank
-pub record New {C : Type 0} (meaning : C → BlockCode) (code : C) (allowance pages : ℕ) (b : Bench C) : Type 0 where
+pub record New {C : Type 0} (meaning : C → BlockCode) (code : C) (allowance pages : ℕ) (b : Card C Benched) : Type 0 where
   pub pages_there : Pages pages
   pub code_kept : b.code ≡ code
-  pub shows : BenchShows meaning b (made_from (meaning code) allowance pages) (blank_pages (made_from (meaning code) allowance pages))
+  pub shows : CardShows meaning b (made_from (meaning code) allowance pages) (blank_pages (made_from (meaning code) allowance pages))
 
 -- why it is not made: the page count, then the allowance
 abbrev pub RefusedCard : BlockCode → (allowance pages : ℕ) → Refusal → Type 0

@@ -1,21 +1,29 @@
-// A card at the bench, and a card in service.
-use super::page::Page;
+// A card whose stage is a type: at the bench it takes floors, in service saves, questions and notes.
+use crate::page::Page;
+use std::marker::PhantomData;
 
-/// A card at the bench, which takes floors.
+/// The stage of a card that takes floors.
+#[derive(Clone, Copy)]
+pub struct Benched;
+
+/// The stage of a card that takes saves, questions and notes.
+#[derive(Clone, Copy)]
+pub struct Serving;
+
+/// A table of pages, a code and an allowance, at a stage.
 #[derive(Drop)]
-pub struct Bench<C> {
+pub struct Card<C, S> {
     code: C,
     allowance: usize,
     pages: Vec<Page>,
+    stage: PhantomData<S>,
 }
 
-/// A card in service, which takes saves, questions and notes.
-#[derive(Drop)]
-pub struct Service<C> {
-    code: C,
-    allowance: usize,
-    pages: Vec<Page>,
-}
+/// A card at the bench.
+pub type Bench<C> = Card<C, Benched>;
+
+/// A card in service.
+pub type Service<C> = Card<C, Serving>;
 
 mod compares;
 mod floors;

@@ -6,6 +6,6 @@ mod faults;
 mod page;
 mod refusals;
 
-pub use cards::{Bench, Service};
+pub use cards::{Bench, Card, Service};
 pub use faults::Fault;
 pub use refusals::Refusal;

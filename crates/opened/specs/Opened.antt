@@ -3,7 +3,7 @@ use Rattle.std.specs.Prelude.{◌≡◌, ℕ, ◌<◌, true, List, [], ◌∷◌
 use Rattle.code.specs.Words.{BlockCode, Message}
 use Rattle.ledger.specs.Ledger as ledger
 use Rattle.ledger.specs.Ledger.{Made, floor, save, InService}
-use Rattle.card.specs.History.{made_from, note_answer, save_answer, ServiceShows}
+use Rattle.card.specs.History.{made_from, note_answer, save_answer, CardShows}
 use Rattle.opened.specs.declared.Opened.{Opened}
 
 -- a card of one page that forces no cell
@@ -14,5 +14,5 @@ one_page code = made_from code 0 1
 pub record OpenedAndSaved {C : Type 0} (meaning : C → BlockCode) (code : C) (cell level : ℕ) (message : List ℕ) (o : Opened C) : Type 0 where
   pub ledger_of : List ledger.Page
   pub kept : InService (one_page (meaning code)) ((floor 0 cell level, note_answer o.floored) ∷ []) ((save 0 message, save_answer o.saved) ∷ []) ledger_of
-  pub shown : ServiceShows meaning o.card (one_page (meaning code)) ledger_of
+  pub shown : CardShows meaning o.card (one_page (meaning code)) ledger_of
   pub granted : cell < (meaning code).cells → level < (meaning code).arithmetic.size → Message (meaning code) message → (is_ok o.floored ≡ true) × (is_ok o.saved ≡ true)

@@ -3,8 +3,8 @@ ghost use Rattle.std.specs.Prelude.{◌≡◌, Decides};
 ghost use Rattle.ledger.specs.Ledger as ledger;
 ghost use Rattle.card.specs.History.{Continues, compare_answer};
 
-use super::super::refusals::Refusal;
 use super::Service;
+use crate::refusals::Refusal;
 use code::{Code, MOST_CELLS};
 use masking::message_length;
 

@@ -2,8 +2,8 @@
 ghost use Rattle.ledger.specs.Ledger.{floor};
 ghost use Rattle.card.specs.History.{BenchContinues, note_answer, RefusedAltersNothing};
 
-use super::super::refusals::Refusal;
 use super::Bench;
+use crate::refusals::Refusal;
 use alphabet::Alphabet;
 use code::Code;
 

@@ -2,15 +2,16 @@
 ghost use Rattle.std.specs.Prelude.{◌≡◌, List, [], MatchResult};
 ghost use Rattle.ledger.specs.Ledger as ledger;
 ghost use Rattle.ledger.specs.Ledger.{Made, BenchCall, Answer, AtBench, InService};
-ghost use Rattle.card.specs.History.{BenchShows, ServiceShows};
+ghost use Rattle.card.specs.History.{CardShows};
 ghost use Rattle.card.specs.Making.{New, NotMade};
 
-use super::super::faults::Fault;
-use super::super::page::Page;
-use super::super::refusals::Refusal;
-use super::{Bench, Service};
+use super::{Bench, Card, Service};
+use crate::faults::Fault;
+use crate::page::Page;
+use crate::refusals::Refusal;
 use code::Code;
 use std::alloc::Global;
+use std::marker::PhantomData;
 
 /// A card has at least so many pages.
 const FEWEST_PAGES: usize = 1;
@@ -38,10 +39,11 @@ impl<C: Code + Drop> Bench<C> {
             let page = Page::blank(heap, cells)?;
             table.push(page)?;
         }
-        Ok(Bench {
+        Ok(Card {
             code,
             allowance,
             pages: table,
+            stage: PhantomData,
         })
     }
 }
@@ -50,17 +52,19 @@ impl<C: Code> Bench<C> {
     /// Puts the card into service. It takes no more bench floors.
     pub fn open(self) -> Service<C>
         ensures pages { result.pages ≡ self.pages }
-        ensures opens { (made : Made) (past : List (BenchCall × Answer)) (l : List ledger.Page) → AtBench made past l → BenchShows C.Code.meaning self made l → InService made past [] l × ServiceShows C.Code.meaning result made l }
+        ensures opens { (made : Made) (past : List (BenchCall × Answer)) (l : List ledger.Page) → AtBench made past l → CardShows C.Code.meaning self made l → InService made past [] l × CardShows C.Code.meaning result made l }
     {
-        let Bench {
+        let Card {
             code,
             allowance,
             pages,
+            stage: PhantomData,
         } = self;
-        Service {
+        Card {
             code,
             allowance,
             pages,
+            stage: PhantomData,
         }
     }
 }

@@ -2,8 +2,8 @@
 ghost use Rattle.ledger.specs.Ledger.{wear, drift};
 ghost use Rattle.card.specs.History.{Continues, note_answer, RefusedAltersNothing};
 
-use super::super::refusals::Refusal;
 use super::Service;
+use crate::refusals::Refusal;
 use alphabet::Alphabet;
 use code::Code;
 

@@ -4,8 +4,8 @@ ghost use Rattle.code.specs.Words.{rest};
 ghost use Rattle.ledger.specs.Ledger as ledger;
 ghost use Rattle.card.specs.History.{Continues, Fetches, read_answer, Untouched};
 
-use super::super::refusals::Refusal;
 use super::Service;
+use crate::refusals::Refusal;
 use code::Code;
 use masking::message_length;
 

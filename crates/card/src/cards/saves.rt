@@ -2,8 +2,8 @@
 ghost use Rattle.ledger.specs.Ledger as ledger;
 ghost use Rattle.card.specs.History.{Continues, save_answer, RefusedAltersNothing};
 
-use super::super::refusals::Refusal;
 use super::Service;
+use crate::refusals::Refusal;
 use code::Code;
 
 impl<C: Code> Service<C> {

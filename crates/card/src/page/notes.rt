@@ -2,8 +2,8 @@
 ghost use Rattle.std.specs.Prelude.{◌≡◌, vec_len, MatchResult};
 ghost use Rattle.card.specs.Cells.{NoSpot, Spot, Floored, Worn, Drifted};
 
-use super::super::refusals::Refusal;
 use super::Page;
+use crate::refusals::Refusal;
 
 impl Page {
     /// The level as a byte, if the cell and the level are there.

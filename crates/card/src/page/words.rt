@@ -3,8 +3,8 @@ ghost use Rattle.std.specs.Prelude.{◌≡◌, false, ◌||◌, is_ok, IfOk};
 ghost use Rattle.masking.specs.Writing.{WrittenAs};
 ghost use Rattle.card.specs.Words.{Blank, FetchedAs};
 
-use super::super::refusals::Refusal;
 use super::Page;
+use crate::refusals::Refusal;
 use code::Code;
 use masking::{read, write};
 use std::alloc::{AllocError, Global};

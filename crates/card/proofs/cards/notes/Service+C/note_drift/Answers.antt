@@ -1,7 +1,7 @@
 use Rattle.std.proofs.Common.{refl, ap, ◌∙◌, arith}
 use Rattle.ledger.specs.Ledger.{InService, NoSpot, no_drift}
 use Rattle.card.proofs.Notes.{drift_next, drift_refused}
-use Rattle.card.proofs.cards.Service.note_drift.Goals as goal
+use Rattle.card.proofs.cards.notes.Service+C.note_drift.Goals as goal
 
 pub returns-then-page-len : goal.returns-then-page-len
 returns-then-page-len g c = record {

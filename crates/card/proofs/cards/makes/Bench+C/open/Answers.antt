@@ -1,6 +1,6 @@
 use Rattle.std.proofs.Common.{refl}
 use Rattle.ledger.specs.Ledger.{opened}
-use Rattle.card.proofs.cards.Bench.open.Goals as goal
+use Rattle.card.proofs.cards.makes.Bench+C.open.Goals as goal
 
 pub returns : goal.returns
 returns g c = record { pages = refl; opens = λ made past l at shows. (opened past l at, shows) }

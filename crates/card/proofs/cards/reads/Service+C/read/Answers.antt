@@ -2,7 +2,7 @@ use Rattle.std.proofs.Common.{length, sym, refl, ap, ◌∙◌, arith}
 use Rattle.code.specs.Words.{rest}
 use Rattle.ledger.specs.Ledger.{InService, read_no_page, read_wrong_room}
 use Rattle.card.proofs.Questions.{read_step}
-use Rattle.card.proofs.cards.Service.read.Goals as goal
+use Rattle.card.proofs.cards.reads.Service+C.read.Goals as goal
 
 pub returns-then-page-len : goal.returns-then-page-len
 returns-then-page-len g c = record {

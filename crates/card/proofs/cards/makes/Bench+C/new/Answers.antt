@@ -2,7 +2,7 @@ use Rattle.std.proofs.Common.{vec_items, refl, arith, rules}
 use Rattle.std.proofs.ByRecursion.{All-push}
 use Rattle.card.specs.Words.{Blank}
 use Rattle.card.proofs.Blanks.{blanks_show}
-use Rattle.card.proofs.cards.Bench.new.Goals as goal
+use Rattle.card.proofs.cards.makes.Bench+C.new.Goals as goal
 
 pub loop-preserved : goal.loop-preserved
 loop-preserved g c =

@@ -1,7 +1,7 @@
 use Rattle.std.proofs.lemmas.Result.{err_from_is_err_and}
 use Rattle.ledger.specs.Ledger.{InService, not_compared, other_not_compared}
 use Rattle.card.proofs.Questions.{compared_step}
-use Rattle.card.proofs.cards.Service.compare.Goals as goal
+use Rattle.card.proofs.cards.compares.Service+C.compare.Goals as goal
 
 pub returns-in_err-fetch : goal.returns-in_err-fetch
 returns-in_err-fetch g c =

@@ -1,7 +1,7 @@
 use Rattle.std.proofs.Common.{refl, ap, ◌∙◌, arith}
 use Rattle.ledger.specs.Ledger.{AtBench, NoSpot, not_floored}
 use Rattle.card.proofs.Notes.{floor_next, floor_refused}
-use Rattle.card.proofs.cards.Bench.set_floor.Goals as goal
+use Rattle.card.proofs.cards.floors.Bench+C.set_floor.Goals as goal
 
 pub returns-then-page-len : goal.returns-then-page-len
 returns-then-page-len g c = record {

@@ -1,7 +1,7 @@
 use Rattle.std.proofs.Common.{refl, arith}
 use Rattle.ledger.specs.Ledger.{InService, save_no_page}
 use Rattle.card.proofs.Saves.{save_granted, save_refused, save_unaltered}
-use Rattle.card.proofs.cards.Service.save.Goals as goal
+use Rattle.card.proofs.cards.saves.Service+C.save.Goals as goal
 
 pub returns-then-page-len : goal.returns-then-page-len
 returns-then-page-len g c = record {

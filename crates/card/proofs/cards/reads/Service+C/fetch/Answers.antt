@@ -2,7 +2,7 @@ use Rattle.std.proofs.Common.{length, refl, ap, ◌∙◌, arith}
 use Rattle.code.specs.Words.{rest}
 use Rattle.ledger.specs.Ledger as ledger
 use Rattle.card.proofs.Questions.{fetched, fetch_untouched}
-use Rattle.card.proofs.cards.Service.fetch.Goals as goal
+use Rattle.card.proofs.cards.reads.Service+C.fetch.Goals as goal
 
 pub returns-then-page-len : goal.returns-then-page-len
 returns-then-page-len g c = record {
