@@ -1,9 +1,13 @@
 // The refusals of alphabets and codes, which are one layer.
 ghost use Rattle.std.specs.Prelude.{◌≡◌};
-ghost use Rattle.alphabet.specs.Refusals.{number, layer, place, ordinal};
+ghost use Rattle.alphabet.specs.Refusals as shown;
+
+use report::Report;
+use std::error::Error;
+use std::fmt;
 
 /// One of the four numbers that choose an alphabet and a code.
-#[derive(Clone, Copy)]
+#[derive(Clone, Copy, Debug, PartialEq, Eq)]
 pub enum Choice {
     AlphabetKind,
     CodeKind,
@@ -14,7 +18,7 @@ pub enum Choice {
 impl Choice {
     /// Its place among the four, from 1.
     pub fn ordinal(&self) -> usize
-        ensures { result ≡ ordinal self.now }
+        ensures { result ≡ shown.ordinal self.now }
     {
         match self {
             Choice::AlphabetKind => 1,
@@ -26,7 +30,7 @@ impl Choice {
 }
 
 /// Why a call of an alphabet or a code is refused.
-#[derive(Clone, Copy)]
+#[derive(Clone, Copy, Debug, PartialEq, Eq)]
 pub enum Refusal {
     /// The first number that chooses nothing on offer.
     NotOffered { choice: Choice },
@@ -40,10 +44,14 @@ pub enum Refusal {
     NotASymbol { index: usize },
 }
 
-impl Refusal {
-    pub fn number(&self) -> usize
-        ensures { result ≡ number self.now }
-    {
+impl Report for Refusal {
+    ghost number = { shown.number };
+
+    ghost layer = { shown.layer };
+
+    ghost place = { shown.place };
+
+    fn number(&self) -> usize {
         match self {
             Refusal::NotOffered { .. } => 24,
             Refusal::BareLength { .. } => 3,
@@ -53,15 +61,11 @@ impl Refusal {
         }
     }
 
-    pub fn layer(&self) -> usize
-        ensures { result ≡ layer self.now }
-    {
+    fn layer(&self) -> usize {
         1
     }
 
-    pub fn place(&self) -> usize
-        ensures { result ≡ place self.now }
-    {
+    fn place(&self) -> usize {
         match self {
             Refusal::NotOffered { choice } => choice.ordinal(),
             Refusal::BareLength { length } => *length,
@@ -71,3 +75,28 @@ impl Refusal {
         }
     }
 }
+
+impl fmt::Display for Choice {
+    fn fmt<W: fmt::Write>(&self, f: &mut fmt::Formatter<W>) -> fmt::Result {
+        f.write_str(match self {
+            Choice::AlphabetKind => "no such kind of alphabet",
+            Choice::CodeKind => "no such kind of code",
+            Choice::AlphabetSize => "no such alphabet for this code",
+            Choice::CodeLength => "no such length for this code",
+        })
+    }
+}
+
+impl fmt::Display for Refusal {
+    fn fmt<W: fmt::Write>(&self, f: &mut fmt::Formatter<W>) -> fmt::Result {
+        match self {
+            Refusal::NotOffered { choice } => write!(f, "{choice}"),
+            Refusal::BareLength { .. } => f.write_str("a Bare word has 2 to 256 cells"),
+            Refusal::TooFar => f.write_str("no code word is within the radius"),
+            Refusal::WordLength { .. } => f.write_str("not as long as the code's words"),
+            Refusal::NotASymbol { .. } => f.write_str("a cell holds no symbol"),
+        }
+    }
+}
+
+impl Error for Refusal {}

@@ -1,8 +1,9 @@
 // Lives a card's life and prints each call with its answer.
 use super::stories::Story;
-use super::wording::{Told, Words, by_code};
+use super::wording::{Told, Words};
 use catalog::{AnyCode, choose};
 use code::Code;
+use report::Reported;
 use runs::{Life, Reply, live};
 use std::io;
 
@@ -26,7 +27,7 @@ pub(crate) fn tell(rt: &HostRuntime, story: &Story<'_>) -> io::Result<()> {
             AnyCode::PlaneResidues(code) => tell_card(rt, code, story),
             AnyCode::PlaneBinary(code) => tell_card(rt, code, story),
         },
-        Err(refusal) => rt.println(Words(&by_code(refusal))),
+        Err(refusal) => rt.println(Reported(&refusal)),
     }
 }
 
@@ -45,7 +46,7 @@ fn tell_card<C: Code + Drop>(rt: &HostRuntime, code: C, story: &Story<'_>) -> io
         story.calls,
     ) {
         Ok(life) => tell_life(rt, story, &life),
-        Err(fault) => rt.println(Words(&fault)),
+        Err(fault) => rt.println(fault),
     }
 }
 

@@ -7,7 +7,6 @@ mod pages;
 mod plane_examples;
 mod steps;
 mod symbols;
-mod wording;
 
 use asked::{ASKED_CODES, ASKED_PAGES};
 use bare_examples::{BARE_EXAMPLES, TWO_WORN_CELLS};

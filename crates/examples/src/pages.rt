@@ -1,9 +1,9 @@
 // A page, and the steps on it.
 use super::steps::{Example, Step, Writing};
-use super::wording::{Numbers, Refused};
 use catalog::AnyCode;
 use code::Code;
 use masking::{read, write};
+use report::{Numbers, Reported};
 use std::io;
 
 /// The levels of a page, and the message that was last written to it.
@@ -32,7 +32,7 @@ fn work(rt: &HostRuntime, example: &Example<'_>) -> io::Result<()> {
             AnyCode::PlaneResidues(code) => take_steps(rt, code, example),
             AnyCode::PlaneBinary(code) => take_steps(rt, code, example),
         },
-        Err(refusal) => rt.println(Refused::by_code(refusal)),
+        Err(refusal) => rt.println(Reported(&refusal)),
     }
 }
 
@@ -72,7 +72,7 @@ fn write_page<'a, C: Code>(
             let word = Numbers(page.levels.as_slice());
             println!(rt; "mask {mask}, forced {forced}, word {word}")
         }
-        Err(refusal) => rt.println(Refused(refusal)),
+        Err(refusal) => rt.println(Reported(&refusal)),
     }
 }
 
@@ -97,7 +97,7 @@ fn read_page<C: Code>(rt: &HostRuntime, code: &C, page: &Page<'_>, room: usize) 
             let verdict = compare(page.written, buffer.as_slice());
             println!(rt; "corrected {corrected}, message {message}{verdict}")
         }
-        Err(refusal) => rt.println(Refused(refusal)),
+        Err(refusal) => rt.println(Reported(&refusal)),
     }
 }
 

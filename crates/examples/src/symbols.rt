@@ -1,6 +1,6 @@
 // Products and inverses of a binary field.
-use super::wording::Refused;
 use alphabet::{Alphabet, BinaryField, Field};
+use report::Reported;
 use std::io;
 
 const SYMBOLS: usize = 16;
@@ -15,7 +15,7 @@ pub(crate) fn multiply_and_invert(rt: &HostRuntime) -> io::Result<()> {
             show_inverse(rt, &field, 2)?;
             show_inverse(rt, &field, 0)
         }
-        Err(refusal) => rt.println(Refused::by_code(refusal)),
+        Err(refusal) => rt.println(Reported(&refusal)),
     }
 }
 

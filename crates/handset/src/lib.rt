@@ -6,6 +6,7 @@ ghost use Rattle.handset.specs.Answers.{ReadBy, Handset};
 use catalog::{AnyCode, choose};
 use code::Code;
 use masking::read;
+use report::Report;
 
 /// A refusal is answered as its number above this.
 const REFUSED: u32 = 100;

@@ -6,6 +6,7 @@ ghost use Rattle.listing.specs.Told.{form_refusal, told};
 ghost use Rattle.runs.specs.Told.{answer_of};
 
 use super::entries::Entry;
+use report::Report;
 use runs::Reply;
 use sheet::{FIELD, Refusal};
 use std::alloc::AllocError;

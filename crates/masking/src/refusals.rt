@@ -1,9 +1,14 @@
 // Why a message is not written or not read.
 ghost use Rattle.std.specs.Prelude.{◌≡◌};
-ghost use Rattle.masking.specs.Refusals.{number, layer, place};
+ghost use Rattle.masking.specs.Refusals as shown;
+ghost use Rattle.masking.specs.declared.refusals.Refusal.TheVariants.{Coding};
+
+use report::Report;
+use std::error::Error;
+use std::fmt;
 
 /// Why a page is not written or not read.
-#[derive(Clone, Copy)]
+#[derive(Clone, Copy, Debug, PartialEq, Eq)]
 pub enum Refusal {
     /// The code refuses a word.
     Coding { refusal: alphabet::Refusal },
@@ -19,10 +24,22 @@ pub enum Refusal {
     NoMask { fewest: usize },
 }
 
-impl Refusal {
-    pub fn number(&self) -> usize
-        ensures { result ≡ number self.now }
-    {
+impl From<alphabet::Refusal> for Refusal {
+    ghost from_gives = { λ refusal r. r ≡ Coding refusal };
+
+    fn from(refusal: alphabet::Refusal) -> Refusal {
+        Refusal::Coding { refusal }
+    }
+}
+
+impl Report for Refusal {
+    ghost number = { shown.number };
+
+    ghost layer = { shown.layer };
+
+    ghost place = { shown.place };
+
+    fn number(&self) -> usize {
         match self {
             Refusal::Coding { refusal } => refusal.number(),
             Refusal::Allowance { .. } => 2,
@@ -33,18 +50,14 @@ impl Refusal {
         }
     }
 
-    pub fn layer(&self) -> usize
-        ensures { result ≡ layer self.now }
-    {
+    fn layer(&self) -> usize {
         match self {
             Refusal::Coding { refusal } => refusal.layer(),
             _ => 2,
         }
     }
 
-    pub fn place(&self) -> usize
-        ensures { result ≡ place self.now }
-    {
+    fn place(&self) -> usize {
         match self {
             Refusal::Coding { refusal } => refusal.place(),
             Refusal::Allowance { allowance } => *allowance,
@@ -55,3 +68,20 @@ impl Refusal {
         }
     }
 }
+
+impl fmt::Display for Refusal {
+    fn fmt<W: fmt::Write>(&self, f: &mut fmt::Formatter<W>) -> fmt::Result {
+        match self {
+            Refusal::Coding { refusal } => write!(f, "{refusal}"),
+            Refusal::Allowance { .. } => f.write_str("the allowance is above the radius"),
+            Refusal::Floor { .. } => f.write_str("a floor is no symbol"),
+            Refusal::MessageLength { .. } => f.write_str("not the length of a message"),
+            Refusal::MessageSymbol { .. } => f.write_str("a number of the message is no symbol"),
+            Refusal::NoMask { .. } => {
+                f.write_str("every mask leaves too many cells below their floors")
+            }
+        }
+    }
+}
+
+impl Error for Refusal {}

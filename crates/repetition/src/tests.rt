@@ -1,6 +1,7 @@
 // A page and a card over three residues: the message 2 is written as 0 0 0 2 2 2 under the mask 0.
 use super::{Repetition, live_repeated, read_repeated, write_repeated};
 use alphabet::Residues;
+use report::Report;
 use runs::{BenchFloor, Reply, Request};
 use std::process::Abort;
 use std::test::Fail;

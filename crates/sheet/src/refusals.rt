@@ -1,6 +1,8 @@
 // Why a sheet or a line of it is refused.
-ghost use Rattle.std.specs.Prelude.{◌≡◌};
-ghost use Rattle.sheet.specs.Refusals.{number, layer, place, Checked};
+ghost use Rattle.sheet.specs.Refusals as shown;
+ghost use Rattle.sheet.specs.Refusals.{Checked};
+
+use report::Report;
 
 /// The most bytes in a sheet.
 const LONGEST_SHEET: usize = 65_536;
@@ -9,7 +11,7 @@ const LONGEST_SHEET: usize = 65_536;
 const PAST_LONGEST_LINE: usize = 1_029;
 
 /// Why a sheet or a line is refused.
-#[derive(Clone, Copy)]
+#[derive(Clone, Copy, Debug, PartialEq, Eq)]
 pub enum Refusal {
     /// The sheet is empty or too long.
     SheetLength,
@@ -25,10 +27,14 @@ pub enum Refusal {
     OutOfTurn,
 }
 
-impl Refusal {
-    pub fn number(&self) -> usize
-        ensures { result ≡ number self.now }
-    {
+impl Report for Refusal {
+    ghost number = { shown.number };
+
+    ghost layer = { shown.layer };
+
+    ghost place = { shown.place };
+
+    fn number(&self) -> usize {
         match self {
             Refusal::SheetLength => 26,
             Refusal::LineLength => 25,
@@ -39,15 +45,11 @@ impl Refusal {
         }
     }
 
-    pub fn layer(&self) -> usize
-        ensures { result ≡ layer self.now }
-    {
+    fn layer(&self) -> usize {
         3
     }
 
-    pub fn place(&self) -> usize
-        ensures { result ≡ place self.now }
-    {
+    fn place(&self) -> usize {
         match self {
             Refusal::SheetLength => 0,
             Refusal::LineLength => PAST_LONGEST_LINE,

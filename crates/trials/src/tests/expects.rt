@@ -2,6 +2,7 @@
 use catalog::{AnyCode, choose};
 use code::Code;
 use masking::{read, write};
+use report::Report;
 use std::process::Abort;
 use std::test::Fail;
 
@@ -16,28 +17,10 @@ pub(crate) fn make(alphabet: usize, code: usize, q: usize, n: usize) -> Result<A
     }
 }
 
-/// What an alphabet or a code refuses.
-pub(crate) fn check_refused<T: Drop>(
+/// What a call refuses.
+pub(crate) fn check_refused<T: Drop, R: Report + Drop>(
     rt: &impl Abort,
-    res: Result<T, alphabet::Refusal>,
-    refused: Refused,
-) -> Result<(), Fail> {
-    match res {
-        Ok(_) => Err(Fail::new("granted")),
-        Err(refusal) => {
-            assert_eq!(rt;
-                (refusal.number(), refusal.layer(), refusal.place()),
-                refused
-            );
-            Ok(())
-        },
-    }
-}
-
-/// What a write or a read refuses.
-pub(crate) fn check_page_refused<T: Drop>(
-    rt: &impl Abort,
-    res: Result<T, masking::Refusal>,
+    res: Result<T, R>,
     refused: Refused,
 ) -> Result<(), Fail> {
     match res {

@@ -1,5 +1,5 @@
 // What writing and reading refuse, in the order of their checks. Each call has the faults that are looked for later too.
-use super::expects::{check_page_refused, make};
+use super::expects::{check_refused, make};
 use catalog::AnyCode;
 use masking::{read, write};
 use std::test::Fail;
@@ -20,23 +20,23 @@ fn refused_writes(rt: HostRuntime) -> Result<(), Fail> {
         return Err(Fail::new("another code"));
     };
     let mut short = [7; 8];
-    check_page_refused(&rt, write(&code, &[3; 8], 2, &[], &mut short), (2, 2, 2))?;
-    check_page_refused(&rt, write(&code, &[3; 8], 1, &[], &mut short), (13, 1, 8))?;
-    check_page_refused(
+    check_refused(&rt, write(&code, &[3; 8], 2, &[], &mut short), (2, 2, 2))?;
+    check_refused(&rt, write(&code, &[3; 8], 1, &[], &mut short), (13, 1, 8))?;
+    check_refused(
         &rt,
         write(&code, &NO_SYMBOLS, 1, &[], &mut short),
         (6, 2, 3),
     )?;
-    check_page_refused(&rt, write(&code, &SOUND, 1, &[], &mut short), (13, 1, 8))?;
+    check_refused(&rt, write(&code, &SOUND, 1, &[], &mut short), (13, 1, 8))?;
     assert_eq!(rt; short, [7; 8]);
     let mut word = [7; 9];
-    check_page_refused(&rt, write(&code, &WORN, 0, &[4; 6], &mut word), (7, 2, 6))?;
-    check_page_refused(
+    check_refused(&rt, write(&code, &WORN, 0, &[4; 6], &mut word), (7, 2, 6))?;
+    check_refused(
         &rt,
         write(&code, &WORN, 0, &[1, 0, 3, 4, 0], &mut word),
         (8, 2, 2),
     )?;
-    check_page_refused(&rt, write(&code, &WORN, 0, &MESSAGE, &mut word), (9, 2, 1))?;
+    check_refused(&rt, write(&code, &WORN, 0, &MESSAGE, &mut word), (9, 2, 1))?;
     assert_eq!(rt; word, [7; 9]);
     Ok(())
 }
@@ -48,12 +48,12 @@ fn refused_reads(rt: HostRuntime) -> Result<(), Fail> {
     };
     let far = [1, 2, 0, 0, 0, 0, 0, 0, 0];
     let mut short = [7; 4];
-    check_page_refused(&rt, read(&code, &[3; 8], &mut short), (13, 1, 8))?;
-    check_page_refused(&rt, read(&code, &NO_SYMBOLS, &mut short), (14, 1, 4))?;
-    check_page_refused(&rt, read(&code, &far, &mut short), (7, 2, 4))?;
+    check_refused(&rt, read(&code, &[3; 8], &mut short), (13, 1, 8))?;
+    check_refused(&rt, read(&code, &NO_SYMBOLS, &mut short), (14, 1, 4))?;
+    check_refused(&rt, read(&code, &far, &mut short), (7, 2, 4))?;
     assert_eq!(rt; short, [7; 4]);
     let mut message = [7; 5];
-    check_page_refused(&rt, read(&code, &far, &mut message), (11, 1, 0))?;
+    check_refused(&rt, read(&code, &far, &mut message), (11, 1, 0))?;
     assert_eq!(rt; message, [7; 5]);
     Ok(())
 }
