@@ -1,23 +1,15 @@
--- What the code of the binary fields computes by bits, and that it fits a byte. Assumes nothing.
-use Rattle.std.proofs.Common.{◌≡◌, ℕ, ◌-◌, ◌*◌, ◌/◌, ◌%◌, ◌<◌, ◌≤◌, arith, w8, Fits}
-use lib.Bits.{bit_and, and_mask}
-use mir.Facts.{Fits-below}
+-- What the code of the binary fields computes by shifts. Assumes nothing.
+use Rattle.std.proofs.Common.{◌≡◌, ℕ, ◌*◌, ◌/◌, ◌%◌, ◌^◌, ◌<◌, ◌≤◌, ◌∙◌, ap, arith, lit<, mod-eq_of_lt, mul_comm}
+use Rattle.std.proofs.Math.Nat.{pow-le-pow_right}
 use Rattle.std.proofs.lemmas.Nat.{mul-le}
 use Rattle.alphabet.specs.Binary.{term}
-use Rattle.alphabet.specs.Offers.{BinarySize}
-use Rattle.alphabet.specs.Sizes.{by_binary_size}
 
--- the low bits of a number are its remainder
-pub low_bits : (a q : ℕ) → BinarySize q → bit_and a (q - 1) ≡ a % q
-low_bits a = by_binary_size (λ q. bit_and a (q - 1) ≡ a % q) (and_mask a 2) (and_mask a 3) (and_mask a 4)
+-- a polynomial of degree 3 at most stays a byte when it is shifted by 3 at most
+shifted : (a i : ℕ) → a < 16 → i < 4 → a * 2 ^ i < 256
+shifted a i ha hi =
+    let bit : 2 ^ i ≤ 8 = pow-le-pow_right {n = 2} (lit< tt) {i = i} {j = 3} (omega arith) in
+    let low : a * 2 ^ i ≤ 15 * 8 = mul-le a (2 ^ i) 15 8 (omega arith) bit in
+    omega arith
 
-shifted : (a power : ℕ) → a < 16 → power ≤ 8 → power * a ≤ 120
-shifted a power ha hp = let low : a ≤ 15 = omega arith in mul-le power a 8 15 hp low
-
-pub shifted_fits : (a power : ℕ) → a < 16 → power ≤ 8 → Fits w8 (power * a)
-shifted_fits a power ha hp = Fits-below {n = 120} tt (shifted a power ha hp)
-
-pub term_fits : (a b power : ℕ) → a < 16 → power ≤ 8 → Fits w8 (term a b power)
-term_fits a b power ha hp =
-    let bit : b / power % 2 ≤ 1 = omega arith in
-    Fits-below {n = 120} tt (mul-le (b / power % 2) (power * a) 1 120 bit (shifted a power ha hp))
+pub shifted_term : (a b i : ℕ) → a < 16 → i < 4 → b / 2 ^ i % 2 * (a * 2 ^ i % 256) ≡ term a b (2 ^ i)
+shifted_term a b i ha hi = ap (λ n. b / 2 ^ i % 2 * n) (mod-eq_of_lt (shifted a i ha hi) ∙ mul_comm a (2 ^ i))

@@ -12,7 +12,7 @@ use crate::refusals::{Choice, Refusal};
 use crate::traits::{Alphabet, Field};
 
 /// The field of q symbols, for q of 4, 8 and 16. Bit i of a symbol is the coefficient of x^i.
-#[derive(Clone, Copy)]
+#[derive(Debug, Clone, Copy, PartialEq, Eq)]
 pub struct BinaryField {
     q: u8,
     ghost ok: { BinarySize q },
@@ -23,8 +23,8 @@ impl BinaryField {
     pub fn new(size: usize) -> Result<BinaryField, Refusal>
         ensures { Offered (λ f. f.q) BinarySize size result }
     {
-        match size {
-            4 | 8 | 16 => Ok(BinaryField { q: size as u8 }),
+        match u8::try_from(size) {
+            Ok(q @ (4 | 8 | 16)) => Ok(BinaryField { q }),
             _ => Err(Refusal::NotOffered {
                 choice: Choice::AlphabetSize,
             }),

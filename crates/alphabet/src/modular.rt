@@ -8,38 +8,41 @@ use crate::refusals::{Choice, Refusal};
 use crate::traits::Alphabet;
 
 /// The remainders by q, for each q from 2 to 16.
-#[derive(Clone, Copy)]
+#[derive(Debug, Clone, Copy, PartialEq, Eq)]
 pub struct Residues {
     q: u8,
     ghost ok: { ResidueSize q },
 }
 
 impl Residues {
-    const SMALLEST: usize = 2;
+    const SMALLEST: u8 = 2;
 
-    const LARGEST: usize = 16;
+    const LARGEST: u8 = 16;
 
     /// The alphabet of so many symbols, if it is on offer.
     pub fn new(size: usize) -> Result<Residues, Refusal>
         ensures { Offered (λ a. a.q) ResidueSize size result }
     {
-        if size < Self::SMALLEST || size > Self::LARGEST {
-            return Err(Refusal::NotOffered {
+        match u8::try_from(size) {
+            Ok(q @ Self::SMALLEST..=Self::LARGEST) => Ok(Residues { q }),
+            _ => Err(Refusal::NotOffered {
                 choice: Choice::AlphabetSize,
-            });
+            }),
         }
-        Ok(Residues { q: size as u8 })
     }
 
     /// The remainder of a sum. What two symbols come to is below twice q, and then nothing is divided.
     fn remainder(&self, total: u16) -> u8
         ensures { result ≡ total % self.now.q }
     {
-        let q = self.q as u16;
-        if total >= 2 * q {
-            return (total % q) as u8;
-        }
-        let symbol = if total < q { total } else { total - q };
+        let q = u16::from(self.q);
+        let symbol = if total < q {
+            total
+        } else if total < 2 * q {
+            total - q
+        } else {
+            total % q
+        };
         symbol as u8
     }
 
@@ -61,7 +64,7 @@ impl Alphabet for Residues {
     }
 
     fn sum(&self, a: u8, b: u8) -> u8 {
-        self.remainder(a as u16 + b as u16)
+        self.remainder(u16::from(a) + u16::from(b))
     }
 
     fn negative(&self, a: u8) -> u8 {

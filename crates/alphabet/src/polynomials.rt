@@ -1,17 +1,18 @@
 // Products and remainders of polynomials over two elements, bit i the coefficient of x^i.
-ghost use Rattle.std.specs.Prelude.{◌≡◌, ◌<◌, ◌≤◌};
+ghost use Rattle.std.specs.Prelude.{◌≡◌, ◌<◌, ◌^◌};
 ghost use Rattle.alphabet.specs.Offers.{BinarySize};
 ghost use Rattle.alphabet.specs.Binary.{term, polynomial_product, reduced_once, reduced};
 
 /// What x^2 + x + 1, x^3 + x + 1 and x^4 + x + 1 have below their leading terms: x + 1.
 const LOWER_TERMS: u8 = 3;
 
-/// `a` times the term of `b` whose bit is `power`.
-fn term(a: u8, b: u8, power: u8) -> u8
-    requires { (a < 16) × ((0 < power) × (power ≤ 8)) }
-    ensures { result ≡ term a b power }
+/// `a` times the term of `b` at x^i.
+fn term(a: u8, b: u8, i: u8) -> u8
+    requires factor { a < 16 }
+    requires within { i < 4 }
+    ensures { result ≡ term a b (2 ^ i) }
 {
-    b / power % 2 * (power * a)
+    (b >> i) % 2 * (a << i)
 }
 
 /// The product of two polynomials, the second of degree 3 at most.
@@ -19,7 +20,7 @@ pub(crate) fn polynomial_product(a: u8, b: u8) -> u8
     requires { a < 16 }
     ensures { result ≡ polynomial_product a b }
 {
-    term(a, b, 1) ^ term(a, b, 2) ^ term(a, b, 4) ^ term(a, b, 8)
+    (0..4).fold(0, |sum, i| sum ^ term(a, b, i))
 }
 
 /// `n` less `p`, if `n` reaches the bit `top` of `p`'s leading term.
@@ -35,9 +36,7 @@ pub(crate) fn reduced(q: u8, n: u8) -> u8
     ensures { result ≡ reduced q n }
 {
     let p = q + LOWER_TERMS;
-    reduced_once(
-        q,
-        p,
-        reduced_once(2 * q, 2 * p, reduced_once(4 * q, 4 * p, n)),
-    )
+    [4, 2, 1]
+        .iter()
+        .fold(n, |left, k| reduced_once(k * q, k * p, left))
 }

@@ -12,7 +12,7 @@ use crate::refusals::{Choice, Refusal};
 use crate::traits::{Alphabet, Field};
 
 /// The remainders by q, for q of 3, 5, 7, 11 and 13.
-#[derive(Clone, Copy)]
+#[derive(Debug, Clone, Copy, PartialEq, Eq)]
 pub struct PrimeResidues {
     residues: Residues,
     ghost prime: { PrimeSize residues.q },
@@ -24,10 +24,9 @@ impl PrimeResidues {
         ensures { Offered (λ f. f.residues.q) PrimeSize size result }
     {
         match size {
-            3 | 5 | 7 | 11 | 13 => {
-                let residues = Residues::new(size)?;
-                Ok(PrimeResidues { residues })
-            }
+            3 | 5 | 7 | 11 | 13 => Ok(PrimeResidues {
+                residues: Residues::new(size)?,
+            }),
             _ => Err(Refusal::NotOffered {
                 choice: Choice::AlphabetSize,
             }),
