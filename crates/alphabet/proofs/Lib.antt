@@ -1,2 +1,2 @@
 mod Bits
-mod Search
+mod Inverting

@@ -2,11 +2,10 @@
 ghost use Rattle.std.specs.Prelude.{◌≡◌, ◌%◌, refl};
 ghost use Rattle.alphabet.specs.Offers.{BinarySize, Offered};
 ghost use Rattle.alphabet.specs.Binary.{binary, polynomial_product, times, Remainder};
-ghost use Rattle.alphabet.specs.Inverses.{with_inverses};
 ghost use Rattle.alphabet.specs.Times.{binary_lawful};
+ghost use Rattle.alphabet.specs.Inverses.{with_inverses};
 ghost use Rattle.alphabet.specs.Fields.{binary_field};
 
-use crate::inverses::find_inverse;
 use crate::polynomials::{polynomial_product, reduced};
 use crate::refusals::{Choice, Refusal};
 use crate::traits::{Alphabet, Field};
@@ -71,8 +70,4 @@ impl Field for BinaryField {
     ghost lawful = { λ a. binary_field a.q a.ok };
 
     ghost agrees = { λ _. refl };
-
-    fn inverse(&self, a: u8) -> Option<u8> {
-        find_inverse(self, a)
-    }
 }

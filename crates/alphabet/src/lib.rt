@@ -2,7 +2,6 @@
 #![tactic(auto)]
 
 mod binary;
-mod inverses;
 mod modular;
 mod polynomials;
 mod primes;

@@ -2,11 +2,10 @@
 ghost use Rattle.std.specs.Prelude.{refl};
 ghost use Rattle.alphabet.specs.Offers.{PrimeSize, Offered};
 ghost use Rattle.alphabet.specs.Residue.{modulo};
-ghost use Rattle.alphabet.specs.Inverses.{with_inverses};
 ghost use Rattle.alphabet.specs.Remainders.{modulo_lawful};
+ghost use Rattle.alphabet.specs.Inverses.{with_inverses};
 ghost use Rattle.alphabet.specs.Fields.{prime_field};
 
-use crate::inverses::find_inverse;
 use crate::modular::Residues;
 use crate::refusals::{Choice, Refusal};
 use crate::traits::{Alphabet, Field};
@@ -62,8 +61,4 @@ impl Field for PrimeResidues {
     ghost lawful = { λ a. prime_field a.residues.q a.residues.ok a.prime };
 
     ghost agrees = { λ _. refl };
-
-    fn inverse(&self, a: u8) -> Option<u8> {
-        find_inverse(self, a)
-    }
 }

@@ -3,6 +3,8 @@ ghost use Rattle.std.specs.Prelude.{◌≡◌, ◌%◌};
 ghost use Rattle.alphabet.specs.Arithmetic.{Arithmetic, Lawful};
 ghost use Rattle.alphabet.specs.Field.{FieldArithmetic, FieldLaws};
 
+const ONE: u8 = 1;
+
 /// The symbols 0 to q - 1 with sums, negatives and products. A number of q or more counts as its remainder by q.
 pub trait Alphabet {
     ghost meaning: { Self → Arithmetic };
@@ -30,7 +32,10 @@ pub trait Field: Alphabet {
     /// The symbol whose product with `a` is 1; none at 0. The field's sums and products are the alphabet's.
     fn inverse(&self, a: u8) -> Option<u8>
         ensures value { result ≡ (meaning self.now).inverse (a % (meaning self.now).arithmetic.size) }
-        ensures agrees { (meaning self.now).arithmetic ≡ Self.Alphabet.meaning self.now };
+        ensures agrees { (meaning self.now).arithmetic ≡ Self.Alphabet.meaning self.now }
+    {
+        (0..self.size()).find(|x| self.product(a, *x) == ONE)
+    }
 
     ghost lawful: { (a : Self) → FieldLaws (meaning a) };
 
