@@ -9,6 +9,7 @@ const READ_LAST_PAGE: Request<'static> = Request::Read { page: 15, room: 3 };
 
 /// The last page is worn; no cell can be forced.
 pub const BARE_LIFE: Story<'static> = Story {
+    name: "Bare over the binary field of 16",
     wanted: BARE_OF_SIXTEEN,
     allowance: 0,
     pages: 16,

@@ -1,7 +1,7 @@
 // Lives a card's life and prints each call with its answer.
 use super::stories::Story;
 use super::wording::{Told, Words};
-use catalog::{AnyCode, choose};
+use catalog::with_code;
 use code::Code;
 use report::Reported;
 use runs::{Life, Reply, live};
@@ -17,16 +17,10 @@ pub(crate) fn tell_all(rt: &HostRuntime, stories: &[Story<'_>]) -> io::Result<()
 
 /// Makes the story's card, lives its life, and prints a line for the making and for each call.
 pub(crate) fn tell(rt: &HostRuntime, story: &Story<'_>) -> io::Result<()> {
-    let wanted = story.wanted;
-    let name = wanted.name;
+    let name = story.name;
     print!(rt; "{name}, ")?;
-    match choose(wanted.alphabet, wanted.code, wanted.q, wanted.n) {
-        Ok(chosen) => match chosen {
-            AnyCode::BareResidues(code) => tell_card(rt, code, story),
-            AnyCode::BareBinary(code) => tell_card(rt, code, story),
-            AnyCode::PlaneResidues(code) => tell_card(rt, code, story),
-            AnyCode::PlaneBinary(code) => tell_card(rt, code, story),
-        },
+    match story.wanted.choose() {
+        Ok(chosen) => with_code!(chosen, code => tell_card(rt, code, story)),
         Err(refusal) => rt.println(Reported(&refusal)),
     }
 }

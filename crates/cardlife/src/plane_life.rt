@@ -14,6 +14,7 @@ const READ_PAGE_1: Request<'static> = Request::Read { page: 1, room: 5 };
 
 /// Page 0 is worn at the bench, page 1 in service.
 pub const PLANE_LIFE: Story<'static> = Story {
+    name: "Plane over residues of 3",
     wanted: PLANE_OF_THREE,
     allowance: 1,
     pages: 2,

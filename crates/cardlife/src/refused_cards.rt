@@ -25,6 +25,7 @@ pub const ASKED_CARDS: [Story<'static>; 6] = [
         ..PLANE_CARD
     },
     Story {
+        name: "Bare over the binary field of 16",
         wanted: BARE_OF_SIXTEEN,
         ..PLANE_CARD
     },
@@ -32,6 +33,7 @@ pub const ASKED_CARDS: [Story<'static>; 6] = [
 
 /// A card of which nothing is asked.
 const PLANE_CARD: Story<'static> = Story {
+    name: "Plane over residues of 3",
     wanted: PLANE_OF_THREE,
     allowance: 1,
     pages: 16,

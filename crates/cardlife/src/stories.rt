@@ -1,38 +1,19 @@
 // What is told of a card: what it is made from, its floors at the bench, and its calls in service.
+use catalog::{AlphabetKind, CodeKind, Wanted};
 use runs::{BenchFloor, Request};
 
-pub const RESIDUES: usize = 0;
-
-pub const BINARY: usize = 1;
-
-pub const BARE: usize = 0;
-
-pub const PLANE: usize = 1;
-
-/// The four numbers that choose a code, and its name.
-#[derive(Clone, Copy)]
-pub struct Wanted<'a> {
-    pub name: &'a str,
-    pub alphabet: usize,
-    pub code: usize,
-    pub q: usize,
-    pub n: usize,
-}
-
 /// The smallest Plane. Its messages have five symbols.
-pub const PLANE_OF_THREE: Wanted<'static> = Wanted {
-    name: "Plane over residues of 3",
-    alphabet: RESIDUES,
-    code: PLANE,
+pub const PLANE_OF_THREE: Wanted = Wanted {
+    alphabet: AlphabetKind::RESIDUES,
+    code: CodeKind::PLANE,
     q: 3,
     n: 9,
 };
 
 /// Four cells of many levels. The messages have three symbols.
-pub const BARE_OF_SIXTEEN: Wanted<'static> = Wanted {
-    name: "Bare over the binary field of 16",
-    alphabet: BINARY,
-    code: BARE,
+pub const BARE_OF_SIXTEEN: Wanted = Wanted {
+    alphabet: AlphabetKind::BINARY,
+    code: CodeKind::BARE,
     q: 16,
     n: 4,
 };
@@ -40,7 +21,8 @@ pub const BARE_OF_SIXTEEN: Wanted<'static> = Wanted {
 /// A card and its life.
 #[derive(Clone, Copy)]
 pub struct Story<'a> {
-    pub wanted: Wanted<'a>,
+    pub name: &'a str,
+    pub wanted: Wanted,
     pub allowance: usize,
     pub pages: usize,
     pub floors: &'a [BenchFloor],

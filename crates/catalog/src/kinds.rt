@@ -5,7 +5,7 @@ ghost use Rattle.catalog.specs.Kinds.{Named, alphabet_number, code_number};
 use alphabet::{Choice, Refusal};
 
 /// A kind of alphabet.
-#[derive(Clone, Copy)]
+#[derive(Clone, Copy, Debug, PartialEq, Eq)]
 pub enum AlphabetKind {
     /// The remainders by q.
     Residues,
@@ -14,13 +14,22 @@ pub enum AlphabetKind {
 }
 
 impl AlphabetKind {
-    /// The kind of this number.
-    pub fn new(number: usize) -> Result<AlphabetKind, Refusal>
-        ensures { Named alphabet_number choice.AlphabetKind number result }
-    {
+    /// The number of the remainders.
+    pub const RESIDUES: usize = 0;
+
+    /// The number of the binary fields.
+    pub const BINARY: usize = 1;
+}
+
+impl TryFrom<usize> for AlphabetKind {
+    type Error = Refusal;
+
+    ghost try_from_gives = { Named alphabet_number choice.AlphabetKind };
+
+    fn try_from(number: usize) -> Result<AlphabetKind, Refusal> {
         match number {
-            0 => Ok(AlphabetKind::Residues),
-            1 => Ok(AlphabetKind::Binary),
+            AlphabetKind::RESIDUES => Ok(AlphabetKind::Residues),
+            AlphabetKind::BINARY => Ok(AlphabetKind::Binary),
             _ => Err(Refusal::NotOffered {
                 choice: Choice::AlphabetKind,
             }),
@@ -29,7 +38,7 @@ impl AlphabetKind {
 }
 
 /// A kind of code.
-#[derive(Clone, Copy)]
+#[derive(Clone, Copy, Debug, PartialEq, Eq)]
 pub enum CodeKind {
     /// All words, no check cells.
     Bare,
@@ -38,13 +47,22 @@ pub enum CodeKind {
 }
 
 impl CodeKind {
-    /// The kind of this number.
-    pub fn new(number: usize) -> Result<CodeKind, Refusal>
-        ensures { Named code_number choice.CodeKind number result }
-    {
+    /// The number of Bare.
+    pub const BARE: usize = 0;
+
+    /// The number of Plane.
+    pub const PLANE: usize = 1;
+}
+
+impl TryFrom<usize> for CodeKind {
+    type Error = Refusal;
+
+    ghost try_from_gives = { Named code_number choice.CodeKind };
+
+    fn try_from(number: usize) -> Result<CodeKind, Refusal> {
         match number {
-            0 => Ok(CodeKind::Bare),
-            1 => Ok(CodeKind::Plane),
+            CodeKind::BARE => Ok(CodeKind::Bare),
+            CodeKind::PLANE => Ok(CodeKind::Plane),
             _ => Err(Refusal::NotOffered {
                 choice: Choice::CodeKind,
             }),

@@ -1,10 +1,10 @@
 // The codes on offer, chosen by numbers.
 #![tactic(auto)]
 
-mod chooses;
 mod kinds;
 mod offered;
+mod wanted;
 
-pub use chooses::choose;
 pub use kinds::{AlphabetKind, CodeKind};
 pub use offered::AnyCode;
+pub use wanted::Wanted;

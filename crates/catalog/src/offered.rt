@@ -11,3 +11,16 @@ pub enum AnyCode {
     PlaneResidues(Plane<PrimeResidues>),
     PlaneBinary(Plane<BinaryField>),
 }
+
+/// What is done with a code, whichever it is: the same words for each.
+#[macro_export]
+macro_rules! with_code {
+    ($chosen:expr, $code:ident => $done:expr) => {
+        match $chosen {
+            $crate::AnyCode::BareResidues($code) => $done,
+            $crate::AnyCode::BareBinary($code) => $done,
+            $crate::AnyCode::PlaneResidues($code) => $done,
+            $crate::AnyCode::PlaneBinary($code) => $done,
+        }
+    };
+}

@@ -1,8 +1,7 @@
 // What is asked for at its limits and past them.
 use super::plane_examples::{MESSAGE, SOUND};
-use super::steps::{
-    BARE_OF_THREE, BINARY, Example, PLANE, PLANE_OF_THREE, Step, UNKNOWN, Wanted, Writing,
-};
+use super::steps::{BARE_OF_THREE, Example, PLANE_OF_THREE, Step, UNKNOWN, Writing};
+use catalog::{AlphabetKind, CodeKind, Wanted};
 
 /// Codes that are made, and codes that are not on offer.
 pub const ASKED_CODES: [Example<'static>; 15] = [
@@ -82,7 +81,7 @@ pub const ASKED_CODES: [Example<'static>; 15] = [
     Example {
         label: "6 is no power of two",
         wanted: Wanted {
-            alphabet: BINARY,
+            alphabet: AlphabetKind::BINARY,
             q: 6,
             ..BARE_OF_THREE
         },
@@ -92,7 +91,7 @@ pub const ASKED_CODES: [Example<'static>; 15] = [
     Example {
         label: "2 are no field",
         wanted: Wanted {
-            code: PLANE,
+            code: CodeKind::PLANE,
             q: 2,
             n: 4,
             ..BARE_OF_THREE
@@ -103,7 +102,7 @@ pub const ASKED_CODES: [Example<'static>; 15] = [
     Example {
         label: "4 residues are no field",
         wanted: Wanted {
-            code: PLANE,
+            code: CodeKind::PLANE,
             q: 4,
             n: 16,
             ..BARE_OF_THREE
@@ -114,8 +113,8 @@ pub const ASKED_CODES: [Example<'static>; 15] = [
     Example {
         label: "4 as a field",
         wanted: Wanted {
-            alphabet: BINARY,
-            code: PLANE,
+            alphabet: AlphabetKind::BINARY,
+            code: CodeKind::PLANE,
             q: 4,
             n: 16,
         },
@@ -125,8 +124,8 @@ pub const ASKED_CODES: [Example<'static>; 15] = [
     Example {
         label: "9 is not 4 x 4",
         wanted: Wanted {
-            alphabet: BINARY,
-            code: PLANE,
+            alphabet: AlphabetKind::BINARY,
+            code: CodeKind::PLANE,
             q: 4,
             n: 9,
         },
@@ -136,8 +135,8 @@ pub const ASKED_CODES: [Example<'static>; 15] = [
     Example {
         label: "the largest",
         wanted: Wanted {
-            alphabet: BINARY,
-            code: PLANE,
+            alphabet: AlphabetKind::BINARY,
+            code: CodeKind::PLANE,
             q: 16,
             n: 256,
         },

@@ -1,5 +1,6 @@
 // Pages of Bare codes, which correct no cell.
-use super::steps::{BARE_OF_THREE, BINARY, Example, Step, Wanted, Writing};
+use super::steps::{BARE_OF_THREE, Example, Step, Writing};
+use catalog::{AlphabetKind, Wanted};
 
 /// Five pages of three symbols, then the same page of four residues and of the binary field.
 pub const BARE_EXAMPLES: [Example<'static>; 7] = [
@@ -104,7 +105,7 @@ pub const BARE_EXAMPLES: [Example<'static>; 7] = [
     Example {
         label: "example 7",
         wanted: Wanted {
-            alphabet: BINARY,
+            alphabet: AlphabetKind::BINARY,
             q: 4,
             n: 4,
             ..BARE_OF_THREE

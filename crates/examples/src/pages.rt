@@ -1,6 +1,6 @@
 // A page, and the steps on it.
 use super::steps::{Example, Step, Writing};
-use catalog::AnyCode;
+use catalog::with_code;
 use code::Code;
 use masking::{read, write};
 use report::{Numbers, Reported};
@@ -26,12 +26,7 @@ fn work(rt: &HostRuntime, example: &Example<'_>) -> io::Result<()> {
     let wanted = example.wanted;
     print!(rt; "{label}: {wanted} -> ")?;
     match wanted.choose() {
-        Ok(chosen) => match &chosen {
-            AnyCode::BareResidues(code) => take_steps(rt, code, example),
-            AnyCode::BareBinary(code) => take_steps(rt, code, example),
-            AnyCode::PlaneResidues(code) => take_steps(rt, code, example),
-            AnyCode::PlaneBinary(code) => take_steps(rt, code, example),
-        },
+        Ok(chosen) => with_code!(&chosen, code => take_steps(rt, code, example)),
         Err(refusal) => rt.println(Reported(&refusal)),
     }
 }

@@ -3,12 +3,12 @@
 
 ghost use Rattle.handset.specs.Answers.{ReadBy, Handset};
 
-use catalog::{AnyCode, choose};
+use catalog::{Wanted, with_code};
 use code::Code;
 use masking::read;
 use report::Report;
 
-/// A refusal is answered as its number above this.
+/// A refusal is answered as its number above this, since C takes one number for both.
 const REFUSED: u32 = 100;
 
 /// Reads a page of this code into the message buffer.
@@ -16,13 +16,14 @@ const REFUSED: u32 = 100;
 pub fn handset_read(alphabet: u32, code: u32, q: u32, levels: &[u8], message: &mut [u8]) -> u32
     ensures { Handset alphabet code q levels.now message.old result message.new }
 {
-    match choose(alphabet as usize, code as usize, q as usize, levels.len()) {
-        Ok(chosen) => match &chosen {
-            AnyCode::BareResidues(code) => answer(code, levels, message),
-            AnyCode::BareBinary(code) => answer(code, levels, message),
-            AnyCode::PlaneResidues(code) => answer(code, levels, message),
-            AnyCode::PlaneBinary(code) => answer(code, levels, message),
-        },
+    let wanted = Wanted {
+        alphabet: alphabet as usize,
+        code: code as usize,
+        q: q as usize,
+        n: levels.len(),
+    };
+    match wanted.choose() {
+        Ok(chosen) => with_code!(&chosen, code => answer(code, levels, message)),
         Err(refusal) => REFUSED + refusal.number() as u32,
     }
 }

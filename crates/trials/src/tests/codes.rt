@@ -1,7 +1,7 @@
 // Making codes, and what a code refuses when it is called directly.
-use super::expects::{check_refused, make};
+use super::expects::{check_refused, choose};
 use alphabet::{BinaryField, PrimeResidues, Residues};
-use catalog::{AnyCode, choose};
+use catalog::AnyCode;
 use code::Code;
 use std::test::Fail;
 
@@ -39,7 +39,7 @@ fn sizes(rt: HostRuntime) -> Result<(), Fail> {
 
 #[test]
 fn words_that_a_code_refuses(rt: HostRuntime) -> Result<(), Fail> {
-    let AnyCode::PlaneResidues(code) = make(0, 1, 3, 9)? else {
+    let AnyCode::PlaneResidues(code) = choose(0, 1, 3, 9)? else {
         return Err(Fail::new("another code"));
     };
     let mut short = [3; 8];

@@ -1,5 +1,5 @@
 // Calls with the answer that is expected of them.
-use catalog::{AnyCode, choose};
+use catalog::{AnyCode, Wanted};
 use code::Code;
 use masking::{read, write};
 use report::Report;
@@ -9,12 +9,20 @@ use std::test::Fail;
 /// The number, the layer and the place of a refusal.
 pub type Refused = (usize, usize, usize);
 
-/// A code that is on offer.
-pub(crate) fn make(alphabet: usize, code: usize, q: usize, n: usize) -> Result<AnyCode, Fail> {
-    match choose(alphabet, code, q, n) {
-        Ok(chosen) => Ok(chosen),
-        Err(refusal) => Err(Fail::new(refusal.number())),
-    }
+/// The code that these numbers choose.
+pub(crate) fn choose(
+    alphabet: usize,
+    code: usize,
+    q: usize,
+    n: usize,
+) -> Result<AnyCode, alphabet::Refusal> {
+    let wanted = Wanted {
+        alphabet,
+        code,
+        q,
+        n,
+    };
+    wanted.choose()
 }
 
 /// What a call refuses.
@@ -46,10 +54,8 @@ pub(crate) fn check_write<C: Code, const N: usize>(
 ) -> Result<(), Fail> {
     let (mask, forced, word) = expected;
     let mut page = [0; N];
-    match write(code, floors, allowance, message, &mut page) {
-        Ok(answer) => assert_eq!(rt; answer, (mask, forced)),
-        Err(refusal) => return Err(Fail::new(refusal.number())),
-    }
+    let answer = write(code, floors, allowance, message, &mut page)?;
+    assert_eq!(rt; answer, (mask, forced));
     assert_eq!(rt; page, word);
     Ok(())
 }
@@ -63,10 +69,8 @@ pub(crate) fn check_read<C: Code, const N: usize>(
     message: [u8; N],
 ) -> Result<(), Fail> {
     let mut buffer = [0; N];
-    match read(code, levels, &mut buffer) {
-        Ok(answer) => assert_eq!(rt; answer, corrected),
-        Err(refusal) => return Err(Fail::new(refusal.number())),
-    }
+    let answer = read(code, levels, &mut buffer)?;
+    assert_eq!(rt; answer, corrected);
     assert_eq!(rt; buffer, message);
     Ok(())
 }

@@ -1,11 +1,11 @@
 // Pages that are written and read back, one for each code of the catalog, with a cell changed in between.
-use super::expects::{check_read, check_write, make};
+use super::expects::{check_read, check_write, choose};
 use catalog::AnyCode;
 use std::test::Fail;
 
 #[test]
 fn bare_residues(rt: HostRuntime) -> Result<(), Fail> {
-    let AnyCode::BareResidues(code) = make(0, 0, 5, 6)? else {
+    let AnyCode::BareResidues(code) = choose(0, 0, 5, 6)? else {
         return Err(Fail::new("another code"));
     };
     let word = [3, 2, 1, 3, 0, 4];
@@ -23,7 +23,7 @@ fn bare_residues(rt: HostRuntime) -> Result<(), Fail> {
 
 #[test]
 fn bare_binary(rt: HostRuntime) -> Result<(), Fail> {
-    let AnyCode::BareBinary(code) = make(1, 0, 8, 4)? else {
+    let AnyCode::BareBinary(code) = choose(1, 0, 8, 4)? else {
         return Err(Fail::new("another code"));
     };
     let word = [3, 4, 6, 5];
@@ -34,7 +34,7 @@ fn bare_binary(rt: HostRuntime) -> Result<(), Fail> {
 
 #[test]
 fn plane_residues(rt: HostRuntime) -> Result<(), Fail> {
-    let AnyCode::PlaneResidues(code) = make(0, 1, 3, 9)? else {
+    let AnyCode::PlaneResidues(code) = choose(0, 1, 3, 9)? else {
         return Err(Fail::new("another code"));
     };
     let message = [1, 0, 0, 0, 0];
@@ -51,7 +51,7 @@ fn plane_residues(rt: HostRuntime) -> Result<(), Fail> {
 /// Here the forced cell is the one that holds the mask.
 #[test]
 fn plane_binary(rt: HostRuntime) -> Result<(), Fail> {
-    let AnyCode::PlaneBinary(code) = make(1, 1, 4, 16)? else {
+    let AnyCode::PlaneBinary(code) = choose(1, 1, 4, 16)? else {
         return Err(Fail::new("another code"));
     };
     let message = [1, 2, 3, 0, 1, 2, 3, 0, 1, 2, 3, 0];

@@ -1,5 +1,5 @@
 // What writing and reading refuse, in the order of their checks. Each call has the faults that are looked for later too.
-use super::expects::{check_refused, make};
+use super::expects::{check_refused, choose};
 use catalog::AnyCode;
 use masking::{read, write};
 use std::test::Fail;
@@ -16,7 +16,7 @@ const MESSAGE: [u8; 5] = [1, 0, 0, 0, 0];
 
 #[test]
 fn refused_writes(rt: HostRuntime) -> Result<(), Fail> {
-    let AnyCode::PlaneResidues(code) = make(0, 1, 3, 9)? else {
+    let AnyCode::PlaneResidues(code) = choose(0, 1, 3, 9)? else {
         return Err(Fail::new("another code"));
     };
     let mut short = [7; 8];
@@ -43,7 +43,7 @@ fn refused_writes(rt: HostRuntime) -> Result<(), Fail> {
 
 #[test]
 fn refused_reads(rt: HostRuntime) -> Result<(), Fail> {
-    let AnyCode::PlaneResidues(code) = make(0, 1, 3, 9)? else {
+    let AnyCode::PlaneResidues(code) = choose(0, 1, 3, 9)? else {
         return Err(Fail::new("another code"));
     };
     let far = [1, 2, 0, 0, 0, 0, 0, 0, 0];

@@ -4,7 +4,7 @@ use Rattle.catalog.specs.declared.kinds.AlphabetKind.TheVariants.{Residues, Bina
 use Rattle.catalog.specs.declared.kinds.CodeKind.TheVariants.{Bare}
 use Rattle.catalog.specs.Offers.{no_size, no_bare_length}
 use Rattle.catalog.proofs.Offering.{bare_offered}
-use Rattle.catalog.proofs.chooses.choose_bare.Goals as goal
+use Rattle.catalog.proofs.wanted.choose_bare.Goals as goal
 
 pub returns-in_err-new-in-Residues : goal.returns-in_err-new-in-Residues
 returns-in_err-new-in-Residues c =

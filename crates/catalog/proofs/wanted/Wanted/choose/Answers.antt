@@ -3,7 +3,7 @@ use Rattle.std.proofs.lemmas.Result.{err_from_is_err_and}
 use Rattle.catalog.specs.declared.kinds.CodeKind.TheVariants.{Bare, Plane}
 use Rattle.catalog.specs.Kinds.{code_number}
 use Rattle.catalog.specs.Offers.{no_code_kind, of_kinds}
-use Rattle.catalog.proofs.chooses.choose.Goals as goal
+use Rattle.catalog.proofs.wanted.Wanted.choose.Goals as goal
 
 pub returns-in_err-code : goal.returns-in_err-code
 returns-in_err-code c =
