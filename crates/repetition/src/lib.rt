@@ -19,6 +19,8 @@ pub use uses::{live_repeated, read_repeated, write_repeated};
 const SYMBOLS: usize = 2;
 /// In how many cells each of them stands.
 const COPIES: usize = 3;
+/// The first cell of each.
+const INFORMATION: [usize; SYMBOLS] = [0, COPIES];
 /// How many cells a word has.
 const CELLS: usize = SYMBOLS * COPIES;
 /// How many cells of a word can be wrong and are still corrected.
@@ -63,11 +65,7 @@ impl<A: Alphabet> Code for Repetition<A> {
     }
 
     fn information_cell(&self, index: usize) -> Option<usize> {
-        match index {
-            0 => Some(0),
-            1 => Some(COPIES),
-            _ => None,
-        }
+        INFORMATION.get(index).copied()
     }
 
     fn complete(&self, word: &mut [u8]) -> Result<(), Refusal> {

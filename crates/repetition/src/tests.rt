@@ -7,10 +7,7 @@ use std::process::Abort;
 use std::test::Fail;
 
 fn code() -> Result<Repetition<Residues>, Fail> {
-    match Residues::new(3) {
-        Ok(alphabet) => Ok(Repetition::new(alphabet)),
-        Err(refusal) => Err(Fail::new(refusal.number())),
-    }
+    Ok(Repetition::new(Residues::new(3)?))
 }
 
 fn check_read(
@@ -20,45 +17,26 @@ fn check_read(
     message: [u8; 1],
 ) -> Result<(), Fail> {
     let mut buffer = [0; 1];
-    match read_repeated(&code()?, levels, &mut buffer) {
-        Ok(answer) => assert_eq!(rt; answer, corrected),
-        Err(refusal) => return Err(Fail::new(refusal.number())),
-    }
+    let answer = read_repeated(&code()?, levels, &mut buffer)?;
+    assert_eq!(rt; answer, corrected);
     assert_eq!(rt; buffer, message);
     Ok(())
-}
-
-fn check_found(rt: &impl Abort, reply: &Reply, count: usize, symbol: u8) -> Result<(), Fail> {
-    match reply {
-        Reply::Found { corrected, message } => {
-            assert_eq!(rt; *corrected, count);
-            assert!(rt; message.len() == 1 && message[0] == symbol);
-            Ok(())
-        }
-        _ => Err(Fail::new("another answer")),
-    }
 }
 
 /// Each mask leaves one cell unmet, so the lowest is taken and that cell forced.
 #[test]
 fn a_worn_page(rt: HostRuntime) -> Result<(), Fail> {
     let mut word = [0; 6];
-    match write_repeated(&code()?, &[1, 0, 0, 2, 0, 0], 1, &[2], &mut word) {
-        Ok(answer) => assert_eq!(rt; answer, (0, 1)),
-        Err(refusal) => return Err(Fail::new(refusal.number())),
-    }
+    let written = write_repeated(&code()?, &[1, 0, 0, 2, 0, 0], 1, &[2], &mut word)?;
+    assert_eq!(rt; written, (0, 1));
     assert_eq!(rt; word, [1, 0, 0, 2, 2, 2]);
     check_read(&rt, &word, 1, [2])?;
     check_read(&rt, &[1, 1, 1, 0, 0, 0], 0, [2])?;
     check_read(&rt, &[1, 1, 1, 0, 2, 0], 1, [2])?;
     let mut buffer = [0; 1];
-    match read_repeated(&code()?, &[1, 0, 0, 2, 2, 1], &mut buffer) {
-        Ok(_) => Err(Fail::new("granted")),
-        Err(refusal) => {
-            assert_eq!(rt; refusal.number(), 11);
-            Ok(())
-        },
-    }
+    let answer = read_repeated(&code()?, &[1, 0, 0, 2, 2, 1], &mut buffer);
+    assert_eq!(rt; answer.map_err(|refusal| refusal.number()), Err(11));
+    Ok(())
 }
 
 /// Under the mask 1 the word 1 1 1 0 0 0 meets the floor. The cell that drifts is corrected.
@@ -81,11 +59,11 @@ fn a_card(rt: HostRuntime) -> Result<(), Fail> {
         },
         Request::Read { page: 0, room: 1 },
     ];
-    let Ok(life) = live_repeated(rt.alloc(), code()?, 0, 1, &floors, &calls) else {
-        return Err(Fail::new("no card"));
+    let life = live_repeated(rt.alloc(), code()?, 0, 1, &floors, &calls)?;
+    let found = Reply::Found {
+        corrected: 1,
+        message: vec![in rt.alloc(); 2]?,
     };
-    match life.replies.last() {
-        Some(reply) => check_found(&rt, reply, 1, 2),
-        None => Err(Fail::new("no answers")),
-    }
+    assert_eq!(rt; life.replies.last(), Some(&Ok(found)));
+    Ok(())
 }
