@@ -1,10 +1,11 @@
 // Lives a card's life and prints each call with its answer.
 use super::stories::Story;
-use super::wording::{Told, Words};
+use card::Refusal;
 use catalog::with_code;
 use code::Code;
 use report::Reported;
-use runs::{Life, Reply, live};
+use runs::{Life, live};
+use std::fmt::Display;
 use std::io;
 
 /// Tells the stories in turn.
@@ -46,17 +47,24 @@ fn tell_card<C: Code + Drop>(rt: &HostRuntime, code: C, story: &Story<'_>) -> io
 
 fn tell_life<C>(rt: &HostRuntime, story: &Story<'_>, life: &Life<C>) -> io::Result<()> {
     rt.println("made")?;
-    tell_answers(rt, story.floors, life.bench.as_slice())?;
+    for (floor, answer) in story.floors.iter().zip(&life.bench) {
+        tell_answer(rt, floor, answer.as_ref().map(|()| "taken"))?;
+    }
     rt.println("  open -> in service")?;
-    tell_answers(rt, story.calls, life.replies.as_slice())
-}
-
-/// Prints each call with its answer.
-fn tell_answers<T: Told>(rt: &HostRuntime, calls: &[T], replies: &[Reply]) -> io::Result<()> {
-    for (call, reply) in calls.iter().zip(replies) {
-        let call = Words(call);
-        let reply = Words(reply);
-        println!(rt; "  {call} -> {reply}")?;
+    for (call, answer) in story.calls.iter().zip(&life.replies) {
+        tell_answer(rt, call, answer.as_ref())?;
     }
     Ok(())
+}
+
+/// Prints a call with its answer.
+fn tell_answer<T: Display, R: Display + Drop>(
+    rt: &HostRuntime,
+    call: &T,
+    answer: Result<R, &Refusal>,
+) -> io::Result<()> {
+    match answer {
+        Ok(reply) => println!(rt; "  {call} -> {reply}"),
+        Err(refusal) => println!(rt; "  {call} -> {}", Reported(refusal)),
+    }
 }

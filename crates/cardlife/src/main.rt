@@ -6,7 +6,6 @@ mod lives;
 mod plane_life;
 mod refused_cards;
 mod stories;
-mod wording;
 
 use bare_life::BARE_LIFE;
 use lives::{tell, tell_all};

@@ -1,4 +1,6 @@
 // The calls of a card as values.
+use report::Numbers;
+use std::fmt;
 
 /// A floor for a cell at the bench.
 #[derive(Clone, Copy, Debug, PartialEq, Eq)]
@@ -38,4 +40,30 @@ pub enum Request<'a> {
         cell: usize,
         level: usize,
     },
+}
+
+impl fmt::Display for BenchFloor {
+    fn fmt<W: fmt::Write>(&self, f: &mut fmt::Formatter<W>) -> fmt::Result {
+        let BenchFloor { page, cell, floor } = self;
+        write!(f, "floor {floor} at page {page}, cell {cell}")
+    }
+}
+
+impl fmt::Display for Request<'_> {
+    fn fmt<W: fmt::Write>(&self, f: &mut fmt::Formatter<W>) -> fmt::Result {
+        match self {
+            Request::Save { page, symbols } => {
+                let message = Numbers(symbols);
+                write!(f, "save {message} to page {page}")
+            }
+            Request::Read { page, room } => write!(f, "read page {page}, room for {room}"),
+            Request::Compare { one, other } => write!(f, "compare pages {one} and {other}"),
+            Request::Wear { page, cell, floor } => {
+                write!(f, "wear at page {page}, cell {cell}, to floor {floor}")
+            }
+            Request::Drift { page, cell, level } => {
+                write!(f, "drift at page {page}, cell {cell}, to level {level}")
+            }
+        }
+    }
 }
