@@ -1,1 +1,2 @@
 mod Correcting
+mod Voting

@@ -1,6 +1,6 @@
 -- The Repetition code over any alphabet: a code word is a symbol in three cells and a symbol in the next three.
 -- Of each three the first is the information cell. Assumes nothing.
-use Rattle.std.specs.Prelude.{◌≡◌, ℕ, ◌≤◌, ◌&&◌, ◌⊎◌, List, [], ◌∷◌, length, ◌==◌, slice_index}
+use Rattle.std.specs.Prelude.{◌≡◌, ℕ, ◌≤◌, not, ◌&&◌, ◌⊎◌, List, [], ◌∷◌, length, count_by, ◌==◌, slice_index}
 use Rattle.alphabet.specs.Arithmetic.{Arithmetic}
 use Rattle.code.specs.Words.{BlockCode, differences}
 use Rattle.code.specs.Bare.{all_below}
@@ -19,12 +19,12 @@ repetition m = record {
   holds = λ word. (length word == 6) && (all_below m.size word && differences word (repeated (slice_index word 0) (slice_index word 3)) == 0);
 }
 
--- how many of three cells hold another symbol
-abbrev pub against : (a b c symbol : ℕ) → ℕ
-against a b c x = differences (a ∷ b ∷ c ∷ []) (x ∷ x ∷ x ∷ [])
+-- how many cells hold another symbol
+abbrev pub against : (cells : List ℕ) (symbol : ℕ) → ℕ
+against cells x = count_by (λ cell. not (cell == x)) cells
 
 -- a symbol that fewest of three cells are against, and how many those are
-pub record Elected (a b c : ℕ) (majority : Majority) : Type 0 where
-  pub among : (majority.symbol ≡ a) ⊎ (majority.symbol ≡ b)
-  pub counted : majority.wrong ≡ against a b c majority.symbol
-  pub fewest : (x : ℕ) → majority.wrong ≤ against a b c x
+pub record Elected (cells : List ℕ) (majority : Majority) : Type 0 where
+  pub among : (majority.symbol ≡ slice_index cells 0) ⊎ (majority.symbol ≡ slice_index cells 1)
+  pub counted : majority.wrong ≡ against cells majority.symbol
+  pub fewest : (x : ℕ) → majority.wrong ≤ against cells x

@@ -78,8 +78,9 @@ impl<A: Alphabet> Code for Repetition<A> {
 
     fn correct(&self, word: &mut [u8]) -> Result<usize, Refusal> {
         check_word(CELLS, self.alphabet.size(), word)?;
-        let first = vote(word[0], word[1], word[2]);
-        let second = vote(word[COPIES], word[COPIES + 1], word[COPIES + 2]);
+        let (first, second) = word.split_at(COPIES);
+        let first = vote(first);
+        let second = vote(second);
         let wrong = first.wrong + second.wrong;
         if wrong > RADIUS {
             return Err(Refusal::TooFar);
