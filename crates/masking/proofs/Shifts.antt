@@ -1,6 +1,8 @@
 -- The code words that carry a message are the shifts of the one whose mask is 0, so the fewest unmet cells are found among those. Assumes nothing.
-use Rattle.std.proofs.Common.{◌≡◌, ℕ, suc, ◌+◌, ◌-◌, ◌%◌, ◌<◌, ◌≤◌, max, List, length, get_or, drop, sym, refl, ap, ◌∙◌, subst, arith}
+use Rattle.std.proofs.Common.{◌≡◌, ℕ, suc, ◌+◌, ◌-◌, ◌%◌, ◌<◌, ◌≤◌, max, Bool, cond, nat_lt, List, [], ◌∷◌, length, get_or, count_by, sym, refl, ap, ◌∙◌, subst, ap₂, mod-eq_of_lt, arith}
+use Rattle.std.specs.List.{zip}
 use Rattle.std.proofs.lemmas.List.{length-map, get_or-map, ext_get_or}
+use Rattle.std.proofs.lemmas.List.Sums.{sum_by-cons}
 use Rattle.alphabet.specs.Arithmetic.{Arithmetic}
 use Rattle.code.specs.Words.{BlockCode, Message, Carries, mask_of}
 use Rattle.code.specs.Laws.{CodeLaws}
@@ -8,7 +10,7 @@ use Rattle.masking.specs.Floors.{Fewest, unmet, raised}
 use Rattle.masking.specs.Shifts.{shift, FewestBelow}
 use Rattle.masking.proofs.Counting.{least_of}
 use Rattle.masking.proofs.SymbolSums.{zero_sum, sum_is}
-use Rattle.masking.proofs.Unmet.{missed, unmet_more, unmet_end, length_raised, get_or_raised}
+use Rattle.masking.proofs.Unmet.{length_raised, get_or_raised}
 use Rattle.masking.proofs.Carriers.{some_symbol, mask_low, carrier, one_carrier, mask_shift, shift_carries}
 
 module _ (code : BlockCode) (laws : CodeLaws code) (base message : List ℕ) (symbols : Message code message) (carrying : Carries code base message) (plain : mask_of code base ≡ 0) where
@@ -53,15 +55,20 @@ module _ (code : BlockCode) (laws : CodeLaws code) where
 pub shifted_cell : (m : Arithmetic) (word : List ℕ) (mask i r : ℕ) → i < length word → get_or word i 0 < m.size → mask < m.size → r ≡ m.sum (get_or word i 0 % m.size) (mask % m.size) → get_or (shift m mask word) i 0 ≡ r
 shifted_cell m word mask i r inside low small is = get_or-map (λ x. m.sum x mask) word i 0 0 inside ∙ sym (sum_is m m (get_or word i 0) mask r refl low small is)
 
--- one more cell counted, which is below its floor or is not
-pub counted_more : (m : Arithmetic) (floors word : List ℕ) (mask i r : ℕ) → length word ≡ length floors → i < length word → get_or word i 0 < m.size → mask < m.size → r ≡ m.sum (get_or word i 0 % m.size) (mask % m.size)
-    → unmet (drop i floors) (drop i (shift m mask word)) ≡ missed r (get_or floors i 0) + unmet (drop (i + 1) floors) (drop (i + 1) (shift m mask word))
-counted_more m floors word mask i r long inside low small is =
-    unmet_more floors (shift m mask word) i (omega arith) (omega (arith, length-map word (λ x. m.sum x mask)))
-    ∙ ap (λ (x : ℕ). missed x (get_or floors i 0) + unmet (drop (i + 1) floors) (drop (i + 1) (shift m mask word))) (shifted_cell m word mask i r inside low small is)
+-- whether a symbol is below the floor beside it once the mask is added, by what the alphabet answers
+abbrev pub is_unmet : (m : Arithmetic) (mask : ℕ) → ℕ × ℕ → Bool
+is_unmet m mask p = nat_lt (m.sum (p.0 % m.size) (mask % m.size)) p.1
 
-pub counted_all : (m : Arithmetic) (floors word : List ℕ) (mask i : ℕ) → length word ≤ i → unmet (drop i floors) (drop i (shift m mask word)) ≡ 0
-counted_all m floors word mask i h = unmet_end floors (shift m mask word) i (omega (arith, length-map word (λ x. m.sum x mask)))
+-- such symbols, counted
+pub counted_pairs : (m : Arithmetic) (mask : ℕ) → mask < m.size → (floors word : List ℕ) → ((i : ℕ) → i < length word → get_or word i 0 < m.size) → count_by (is_unmet m mask) (zip word floors) ≡ unmet floors (shift m mask word)
+counted_pairs m mask small [] [] low = refl
+counted_pairs m mask small [] (x ∷ xs) low = refl
+counted_pairs m mask small (s ∷ ss) [] low = refl
+counted_pairs m mask small (s ∷ ss) (x ∷ xs) low =
+    sum_by-cons (λ p. cond (is_unmet m mask p) 1 0) (x, s) (zip xs ss)
+    ∙ ap₂ (λ (a b : ℕ). a + b)
+    (ap₂ (λ a b. cond (nat_lt (m.sum a b) s) 1 0) (mod-eq_of_lt (low 0 (omega arith))) (mod-eq_of_lt small))
+    (counted_pairs m mask small ss xs (λ i h. low (suc i) (omega arith)))
 
 -- what the cells of a raised word hold, once they are all done
 pub raised_all : (m : Arithmetic) (floors base word : List ℕ) (mask : ℕ) → length base ≡ length floors → length word ≡ length floors

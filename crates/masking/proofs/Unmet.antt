@@ -1,6 +1,5 @@
 -- The cells of a word that are below their floors, and the word with them raised. Assumes nothing.
-use Rattle.std.proofs.Common.{◌≡◌, ℕ, zero, suc, ◌+◌, ◌<◌, ◌≤◌, max, cond, ltb, ◌⊎◌, List, [], ◌∷◌, length, get_or, drop, refl, ap, ◌∙◌, ap₂, inl, inr, ⊎_elim, arith}
-use Rattle.std.proofs.lemmas.List.{drop_more, drop_all}
+use Rattle.std.proofs.Common.{◌≡◌, ℕ, zero, suc, ◌<◌, ◌≤◌, max, cond, ltb, ◌⊎◌, List, [], ◌∷◌, length, get_or, refl, ap, inl, inr, ⊎_elim, arith}
 use Rattle.std.proofs.lemmas.Bool.{lt-ltb, le-ltb, cases_lt}
 use Rattle.code.specs.Words.{differences}
 use Rattle.masking.specs.Floors.{unmet, raised}
@@ -49,14 +48,3 @@ differences_raised (s ∷ ss) (x ∷ xs) =
     (λ m. omega (arith, m.1, differences_raised ss xs, differ_other (max s x) x (λ d. omega (arith, m.0))))
     (λ m. omega (arith, m.1, differences_raised ss xs, differ_same (max s x) x (omega (arith, m.0))))
     (missed_way x s)
-
--- one cell more of a word under its floors
-pub unmet_more : (floors word : List ℕ) (i : ℕ) → i < length floors → i < length word → unmet (drop i floors) (drop i word) ≡ missed (get_or word i 0) (get_or floors i 0) + unmet (drop (i + 1) floors) (drop (i + 1) word)
-unmet_more floors word i h k = ap₂ unmet (drop_more floors i 0 h) (drop_more word i 0 k)
-
-pub unmet_end : (floors word : List ℕ) (i : ℕ) → length word ≤ i → unmet (drop i floors) (drop i word) ≡ 0
-unmet_end floors word i h = ap (unmet (drop i floors)) (drop_all i word h) ∙ unmet_nothing (drop i floors)
-  where
-    unmet_nothing : (ss : List ℕ) → unmet ss [] ≡ 0
-    unmet_nothing [] = refl
-    unmet_nothing (s ∷ ss) = refl

@@ -15,27 +15,22 @@ pub fn read<C: Code>(code: &C, levels: &[u8], message: &mut [u8]) -> Result<usiz
     ensures read { ReadAs (C.Code.meaning code.now) levels.now message.old result message.new }
     ensures one_way { ReadsOneWay (C.Code.meaning code.now) levels.now result message.new }
 {
-    let cells = code.length();
-    if levels.len() != cells {
-        let refusal = alphabet::Refusal::WordLength {
-            length: levels.len(),
-        };
-        return Err(Refusal::Coding { refusal });
+    let length = levels.len();
+    if length != code.length() {
+        return Err(alphabet::Refusal::WordLength { length }.into());
     }
-    let mut scratch = [0u8; MOST_CELLS];
-    let word = &mut scratch[0..cells];
     let room = message.len();
     let wanted = message_length(code);
-    match correct_copy(code, levels, word) {
-        Ok(corrected) => {
-            if room != wanted {
-                return Err(Refusal::MessageLength { length: room });
-            }
-            unmask(code, word, message);
-            Ok(corrected)
-        }
-        Err(refusal) => Err(unread(refusal, room, wanted)),
+    // no call on a page allocates, so the copy lies in a fixed array
+    let mut scratch = [0u8; MOST_CELLS];
+    let word = &mut scratch[..length];
+    let answer = correct_copy(code, levels, word);
+    let corrected = answer.map_err(|refusal| unread(refusal, room, wanted))?;
+    if room != wanted {
+        return Err(Refusal::MessageLength { length: room });
     }
+    unmask(code, word, message);
+    Ok(corrected)
 }
 
 /// Corrects a copy of the levels.
@@ -57,7 +52,7 @@ fn unread(refusal: alphabet::Refusal, room: usize, wanted: usize) -> Refusal
 {
     match refusal {
         alphabet::Refusal::TooFar if room != wanted => Refusal::MessageLength { length: room },
-        _ => Refusal::Coding { refusal },
+        _ => refusal.into(),
     }
 }
 
@@ -70,9 +65,9 @@ fn unmask<C: Code>(code: &C, word: &[u8], message: &mut [u8])
 {
     let alphabet = code.alphabet();
     let down = alphabet.negative(first_symbol(code, word));
-    for i in 0..message.len() {
-        if let Some(cell) = code.information_cell(i + 1) {
-            message[i] = alphabet.sum(word[cell], down);
+    for (index, symbol) in message.iter_mut().enumerate() {
+        if let Some(cell) = code.information_cell(index + 1) {
+            *symbol = alphabet.sum(word[cell], down);
         }
     }
 }
@@ -82,8 +77,5 @@ fn first_symbol<C: Code>(code: &C, word: &[u8]) -> u8
     requires { length word.now ≡ (C.Code.meaning code.now).cells }
     ensures { result ≡ mask_of (C.Code.meaning code.now) word.now }
 {
-    match code.information_cell(0) {
-        Some(cell) => word[cell],
-        None => 0,
-    }
+    code.information_cell(0).map_or(0, |cell| word[cell])
 }

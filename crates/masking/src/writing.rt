@@ -42,15 +42,20 @@ fn write_lowest<C: Code>(
 {
     check_page(code, floors, allowance, word.len())?;
     check_message(code, message)?;
+    // no call on a page allocates, so the word lies in a fixed array
     let mut scratch = [0u8; MOST_CELLS];
-    let base = &mut scratch[0..code.length()];
+    let base = &mut scratch[..code.length()];
     unmasked_word(code, message, base);
-    let alphabet = code.alphabet();
-    let (mask, forced) = fewest_unmet(alphabet, base, floors);
+    let unmasked = Unmasked {
+        alphabet: code.alphabet(),
+        word: base,
+        floors,
+    };
+    let (mask, forced) = unmasked.fewest_unmet();
     if forced > allowance {
         return Err(Refusal::NoMask { fewest: forced });
     }
-    raise(alphabet, base, floors, mask, word);
+    unmasked.raise(mask, word);
     Ok((mask, forced))
 }
 
@@ -67,12 +72,11 @@ fn check_page<C: Code>(
         return Err(Refusal::Allowance { allowance });
     }
     let cells = code.length();
-    if let Err(refusal) = check_word(cells, code.alphabet().size(), floors) {
-        return Err(unfit_floors(refusal, floors));
-    }
+    check_word(cells, code.alphabet().size(), floors).map_err(|refusal| unfit_floors(
+        refusal, floors,
+    ))?;
     if room != cells {
-        let refusal = alphabet::Refusal::WordLength { length: room };
-        return Err(Refusal::Coding { refusal });
+        return Err(alphabet::Refusal::WordLength { length: room }.into());
     }
     Ok(())
 }
@@ -85,7 +89,7 @@ fn unfit_floors(refusal: alphabet::Refusal, floors: &[u8]) -> Refusal
         alphabet::Refusal::NotASymbol { index } if index < floors.len() => Refusal::Floor {
             floor: floors[index] as usize,
         },
-        _ => Refusal::Coding { refusal },
+        _ => refusal.into(),
     }
 }
 
@@ -94,10 +98,7 @@ fn check_message<C: Code>(code: &C, message: &[u8]) -> Result<(), Refusal>
     ensures { MatchResult result (λ _. Message (C.Code.meaning code.now) message.now) (NoMessage (C.Code.meaning code.now) message.now) }
 {
     let size = code.alphabet().size();
-    match check_word(message_length(code), size, message) {
-        Ok(()) => Ok(()),
-        Err(refusal) => Err(unfit_message(refusal)),
-    }
+    check_word(message_length(code), size, message).map_err(unfit_message)
 }
 
 /// A message that is no list of so many symbols is refused as a message.
@@ -107,55 +108,62 @@ fn unfit_message(refusal: alphabet::Refusal) -> Refusal
     match refusal {
         alphabet::Refusal::WordLength { length } => Refusal::MessageLength { length },
         alphabet::Refusal::NotASymbol { index } => Refusal::MessageSymbol { index },
-        _ => Refusal::Coding { refusal },
+        _ => refusal.into(),
     }
 }
 
-/// How many cells are below their floors once the mask is added to all.
-fn count_unmet<A: Alphabet>(alphabet: &A, word: &[u8], floors: &[u8], mask: u8) -> usize
-    requires word { Filled (length floors.now) (A.Alphabet.meaning alphabet.now).size word.now }
-    requires mask { mask < (A.Alphabet.meaning alphabet.now).size }
-    ensures { result ≡ unmet floors.now (shift (A.Alphabet.meaning alphabet.now) mask word.now) }
-{
-    let mut count = 0;
-    for i in 0..word.len() {
-        if alphabet.sum(word[i], mask) < floors[i] {
-            count += 1;
-        }
-    }
-    count
+/// The code word of a message under mask 0, and the floors that its shifts are to meet.
+#[derive(Drop)]
+struct Unmasked<'a, A: Alphabet> {
+    alphabet: &'a A,
+    word: &'a [u8],
+    floors: &'a [u8],
+    ghost filled: { Filled (length floors.now) (A.Alphabet.meaning alphabet.now).size word.now },
 }
 
-/// The lowest of the masks that leave the fewest cells below their floors, and how many those are.
-fn fewest_unmet<A: Alphabet>(alphabet: &A, word: &[u8], floors: &[u8]) -> (u8, usize)
-    requires { Filled (length floors.now) (A.Alphabet.meaning alphabet.now).size word.now }
-    ensures { FewestBelow (A.Alphabet.meaning alphabet.now) floors.now word.now (A.Alphabet.meaning alphabet.now).size result.0 result.1 }
-{
-    let mut best = 0;
-    let mut fewest = count_unmet(alphabet, word, floors, 0);
-    for mask in 1..alphabet.size() {
-        // no mask leaves fewer than none
-        if fewest == 0 {
-            return (best, fewest);
-        }
-        let count = count_unmet(alphabet, word, floors, mask);
-        if count < fewest {
-            best = mask;
-            fewest = count;
-        }
+impl<'a, A: Alphabet> Unmasked<'a, A> {
+    /// How many cells are below their floors once the mask is added to all.
+    fn count_unmet(&self, mask: u8) -> usize
+        requires { mask < (A.Alphabet.meaning self.now.alphabet.now).size }
+        ensures { result ≡ unmet self.now.floors.now (shift (A.Alphabet.meaning self.now.alphabet.now) mask self.now.word.now) }
+    {
+        self.word
+            .iter()
+            .zip(self.floors)
+            .map(|(symbol, floor)| usize::from(self.alphabet.sum(*symbol, mask) < *floor))
+            .sum()
     }
-    (best, fewest)
-}
 
-/// Adds the mask to all cells of a word, and raises those below their floors to them.
-fn raise<A: Alphabet>(alphabet: &A, base: &[u8], floors: &[u8], mask: u8, word: &mut [u8])
-    requires base { Filled (length floors.now) (A.Alphabet.meaning alphabet.now).size base.now }
-    requires mask { mask < (A.Alphabet.meaning alphabet.now).size }
-    requires room { length word.old ≡ length floors.now }
-    ensures { word.new ≡ raised floors.now (shift (A.Alphabet.meaning alphabet.now) mask base.now) }
-{
-    for i in 0..word.len() {
-        word[i] = floors[i].max(alphabet.sum(base[i], mask));
+    /// The lowest of the masks that leave the fewest cells below their floors, and how many those are.
+    fn fewest_unmet(&self) -> (u8, usize)
+        ensures { FewestBelow (A.Alphabet.meaning self.now.alphabet.now) self.now.floors.now self.now.word.now (A.Alphabet.meaning self.now.alphabet.now).size result.0 result.1 }
+    {
+        let mut best = 0;
+        let mut fewest = self.count_unmet(0);
+        for mask in 1..self.alphabet.size() {
+            // no mask leaves fewer than none
+            if fewest == 0 {
+                return (best, fewest);
+            }
+            let count = self.count_unmet(mask);
+            if count < fewest {
+                best = mask;
+                fewest = count;
+            }
+        }
+        (best, fewest)
+    }
+
+    /// Writes the word with the mask added to all cells, and those below their floors raised to them.
+    fn raise(&self, mask: u8, page: &mut [u8])
+        requires mask { mask < (A.Alphabet.meaning self.now.alphabet.now).size }
+        requires room { length page.old ≡ length self.now.floors.now }
+        ensures { page.new ≡ raised self.now.floors.now (shift (A.Alphabet.meaning self.now.alphabet.now) mask self.now.word.now) }
+    {
+        // through a `zip` of `page.iter_mut()` the check learns nothing of the page
+        for (cell, level) in page.iter_mut().enumerate() {
+            *level = self.floors[cell].max(self.alphabet.sum(self.word[cell], mask));
+        }
     }
 }
 
@@ -178,9 +186,9 @@ fn place_message<C: Code>(code: &C, message: &[u8], word: &mut [u8])
     ensures information { symbols_at word.new (C.Code.meaning code.now).information ≡ 0 ∷ message.now }
 {
     word.fill(0);
-    for i in 0..message.len() {
-        if let Some(cell) = code.information_cell(i + 1) {
-            word[cell] = message[i];
+    for (index, symbol) in message.iter().enumerate() {
+        if let Some(cell) = code.information_cell(index + 1) {
+            word[cell] = *symbol;
         }
     }
 }

@@ -1,17 +1,12 @@
-use Rattle.std.proofs.Common.{sym, refl, ◌∙◌}
+use Rattle.std.proofs.Common.{refl}
 use Rattle.std.proofs.lemmas.Result.{err_from_is_err_and}
-use Rattle.masking.proofs.Choosing.{base_filled, chosen, writes}
+use Rattle.masking.proofs.Choosing.{chosen, writes}
 use Rattle.masking.proofs.writing.write_lowest.Goals as goal
 
 pub returns-in_err-check_page : goal.returns-in_err-check_page
 returns-in_err-check_page g c =
     let p = err_from_is_err_and c.from_residual.result c.from_residual.ensures.1 in
     rw (p.1, p.2) (c.in_err-check_page.ensures c.args.message.now, refl)
-
-pub fewest_unmet-mask-requires : goal.fewest_unmet-mask-requires
-fewest_unmet-mask-requires g c =
-    base_filled (g.C.Code.meaning c.args.code.now) (g.met.C.Code.lawful c.args.code.now) c.args.message.now c.unmasked_word.new.word
-    c.in_ok-check_message.ensures c.unmasked_word.ensures.held c.unmasked_word.ensures.information _ c.alphabet-alphabet.ensures c.args.floors.now c.in_ok-check_page.ensures.levels.whole
 
 pub returns-then-forced-allowance : goal.returns-then-forced-allowance
 returns-then-forced-allowance g c = (
@@ -22,21 +17,12 @@ returns-then-forced-allowance g c = (
       c.fewest_unmet-mask.result.0,
       _,
       chosen (g.C.Code.meaning c.args.code.now) (g.met.C.Code.lawful c.args.code.now) c.args.message.now c.unmasked_word.new.word
-          c.in_ok-check_message.ensures c.unmasked_word.ensures.held c.unmasked_word.ensures.information _ c.alphabet-alphabet.ensures c.args.floors.now c.fewest_unmet-mask.result.0 c.fewest_unmet-mask.result.1 c.fewest_unmet-mask.ensures,
+          c.in_ok-check_message.ensures c.unmasked_word.ensures.held c.unmasked_word.ensures.information _ c.alphabet.ensures c.args.floors.now c.fewest_unmet-mask.result.0 c.fewest_unmet-mask.result.1 c.fewest_unmet-mask.ensures,
     ),
     c.if-forced-allowance.true,
   ),
   refl,
 )
-
-pub raise-requires : goal.raise-requires
-raise-requires g c = record {
-  base =
-      base_filled (g.C.Code.meaning c.args.code.now) (g.met.C.Code.lawful c.args.code.now) c.args.message.now c.unmasked_word.new.word
-      c.in_ok-check_message.ensures c.unmasked_word.ensures.held c.unmasked_word.ensures.information _ c.alphabet-alphabet.ensures c.args.floors.now c.in_ok-check_page.ensures.levels.whole;
-  mask = c.fewest_unmet-mask.ensures.below;
-  room = c.in_ok-check_page.ensures.whole ∙ sym c.in_ok-check_page.ensures.levels.whole;
-}
 
 pub returns : goal.returns
 returns g c = record {
@@ -44,6 +30,6 @@ returns g c = record {
   symbols = c.in_ok-check_message.ensures;
   writes =
       writes (g.C.Code.meaning c.args.code.now) (g.met.C.Code.lawful c.args.code.now) c.args.message.now c.unmasked_word.new.word
-      c.in_ok-check_message.ensures c.unmasked_word.ensures.held c.unmasked_word.ensures.information _ c.alphabet-alphabet.ensures c.args.floors.now
-      c.args.allowance c.fewest_unmet-mask.result.0 c.fewest_unmet-mask.result.1 c.raise.new.word c.fewest_unmet-mask.ensures c.if-forced-allowance.false c.raise.ensures;
+      c.in_ok-check_message.ensures c.unmasked_word.ensures.held c.unmasked_word.ensures.information _ c.alphabet.ensures c.args.floors.now
+      c.args.allowance c.fewest_unmet-mask.result.0 c.fewest_unmet-mask.result.1 c.raise.new.page c.fewest_unmet-mask.ensures c.if-forced-allowance.false c.raise.ensures;
 }
