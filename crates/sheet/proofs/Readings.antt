@@ -8,11 +8,11 @@ use Rattle.sheet.specs.declared.verbs.Verb.TheVariants as verb
 use Rattle.sheet.specs.declared.parsing.Line.{Line}
 use Rattle.sheet.specs.declared.parsing.Line.TheVariants.{Card, Floor, Worn, Move, Open, Read, Same, Save}
 use Rattle.sheet.specs.Fields.{Shows, WellFormed}
-use Rattle.sheet.specs.Verbs.{name, Counted}
+use Rattle.sheet.specs.Verbs.{name, wants, Counted}
 use Rattle.sheet.specs.Parsing.{verb_of, numbers, field_at, BeginWith, AllWellFormed, Lends, FirstIll, Parsed}
 use Rattle.sheet.specs.Readings.{symbols_of, told, OneReading}
 use Rattle.sheet.proofs.Shown.{Forms, forms, shown_long}
-use Rattle.sheet.proofs.Steps.{both}
+use Rattle.sheet.proofs.Steps.{both, shown_fields}
 
 -- a verb is known by its letters
 spelled : List ℕ → Verb
@@ -59,18 +59,7 @@ same_numbers cs (u ∷ us) (v ∷ vs) l p q =
     let tail : us ≡ vs = same_numbers (drop 4 cs) us vs (omega arith) p.1 q.1 in
     cc
 
-wants : Verb → ℕ
-wants verb.Card = 6
-wants verb.Floor = 3
-wants verb.Worn = 3
-wants verb.Move = 3
-wants verb.Open = 0
-wants verb.Read = 1
-wants verb.Same = 2
-wants verb.Save = 1
-
 counted_numbers : (l : Line) → length (numbers l) ≡ wants (verb_of l)
-unfolding wants
 counted_numbers (Card alphabet code q n f pages) = refl
 counted_numbers (Floor page cell floor) = refl
 counted_numbers (Worn page cell floor) = refl
@@ -106,11 +95,6 @@ same_line cs l m e p q f g =
     let ns : numbers l ≡ numbers m = same_numbers cs (numbers l) (numbers m) (counted_numbers l ∙ ap wants e ∙ sym (counted_numbers m)) p q in
     let ss : symbols_of l ≡ symbols_of m = lent_symbols cs l f ∙ ap (λ v. lent v cs) e ∙ sym (lent_symbols cs m g) in
     λ i. Ok (e i, ns i, ss i)
-
--- the fields that show numbers are well formed
-shown_fields : (cs vs : List ℕ) → BeginWith cs vs → (k : ℕ) → k < length vs → WellFormed (field_at cs k)
-shown_fields cs [] p k l = absurd (omega arith)
-shown_fields cs (v ∷ vs) p k l = both cs (drop 4 cs) (length vs) v p.0 refl (shown_fields (drop 4 cs) vs p.1) k (omega arith)
 
 -- every field of a line that is read is well formed
 all_fields : (cs : List ℕ) (l : Line) → Counted (verb_of l) (length cs) → BeginWith cs (numbers l) → Lends cs l → AllWellFormed cs

@@ -89,12 +89,26 @@ forms w x y z v e =
     (cases_lt v 100))
     (cases_lt v 10)
 
-pub refused : (w x y z : ℕ) (r : Option ℕ) → r ≡ None → ((v : ℕ) → Forms w x y z v → ⊥) → Field (w ∷ x ∷ y ∷ z ∷ []) r
-refused w x y z r e never = subst (Field (w ∷ x ∷ y ∷ z ∷ [])) (sym e) (λ v s. never v (forms w x y z v s))
+-- the columns of an array of four
+abbrev pub FormsOf : List ℕ → ℕ → Type 0
+FormsOf cs v = Forms (get_or cs 0 0) (get_or cs 1 0) (get_or cs 2 0) (get_or cs 3 0) v
 
-pub led : (w x y z first value : ℕ) (r : Option ℕ) → MatchOption r (first ≡ 0) (λ v. (v ≡ value) × (0 < first)) → (first ≡ 0 → (v : ℕ) → Forms w x y z v → ⊥) → (0 < first → Forms w x y z value) → Field (w ∷ x ∷ y ∷ z ∷ []) r
-led w x y z first value (Some v) h never f = shown w x y z v (subst (Forms w x y z) (sym h.0) (f h.1))
-led w x y z first value None h never f = λ v s. never h v (forms w x y z v s)
+four_columns : (cs : List ℕ) → length cs ≡ 4 → cs ≡ get_or cs 0 0 ∷ get_or cs 1 0 ∷ get_or cs 2 0 ∷ get_or cs 3 0 ∷ []
+four_columns [] l = absurd (omega arith)
+four_columns (w ∷ []) l = absurd (omega arith)
+four_columns (w ∷ x ∷ []) l = absurd (omega arith)
+four_columns (w ∷ x ∷ y ∷ []) l = absurd (omega arith)
+four_columns (w ∷ x ∷ y ∷ z ∷ []) l = refl
+four_columns (w ∷ x ∷ y ∷ z ∷ u ∷ cs) l = absurd (omega arith)
+
+-- four columns show none
+pub refused : (cs : List ℕ) (r : Option ℕ) → length cs ≡ 4 → r ≡ None → ((v : ℕ) → FormsOf cs v → ⊥) → Field cs r
+refused cs r l e never = subst (Field cs) (sym e) (λ v s. never v (forms _ _ _ _ v (subst (λ k. Shows k v) (four_columns cs l) s)))
+
+-- what four columns show, by the last step
+pub told : (cs : List ℕ) (r : Option ℕ) {P : Type 0} {Q : ℕ → Type 0} → length cs ≡ 4 → MatchOption r P Q → (P → (v : ℕ) → FormsOf cs v → ⊥) → ((v : ℕ) → Q v → FormsOf cs v) → Field cs r
+told cs (Some v) l h never f = subst (λ k. Shows k v) (sym (four_columns cs l)) (shown _ _ _ _ v (f v h))
+told cs None l h never f = refused cs None l refl (never h)
 
 -- what a slice pattern of four columns and the rest knows
 pub front_is : (xs : List ℕ) (a b c d : ℕ) → 4 ≤ length xs → get_or xs 0 0 ≡ a → get_or xs 1 0 ≡ b → get_or xs 2 0 ≡ c → get_or xs 3 0 ≡ d → (take 4 xs ≡ a ∷ b ∷ c ∷ d ∷ []) × (take (length xs - 4) (drop 4 xs) ≡ drop 4 xs)

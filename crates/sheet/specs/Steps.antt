@@ -8,30 +8,30 @@ use Rattle.sheet.specs.declared.parsing.Line.{Line}
 use Rattle.sheet.specs.Fields.{Shows, WellFormed, IllFormed}
 use Rattle.sheet.specs.Parsing.{verb_of, numbers, field_at, BeginWith, AllWellFormed, Lends}
 
--- the number of the line's field of this index, and the columns after it
-abbrev pub Next : List ℕ → (index : ℕ) → Result (ℕ × Bor (List ℕ)) Refusal → Type 0
-Next columns index (Ok p) = Shows (take 4 columns) p.0 × (p.1.now ≡ drop 4 columns)
-Next columns index (Err e) = (e ≡ IllFormedField (5 + 4 * index)) × IllFormed (take 4 columns)
+-- the number of the next field, which begins at this column of the line, and the columns after it
+abbrev pub Next : List ℕ → (column : ℕ) → Result ℕ Refusal → List ℕ → (after : ℕ) → Type 0
+Next columns column (Ok v) rest after = Shows (take 4 columns) v × (rest ≡ drop 4 columns) × (after ≡ column + 4)
+Next columns column (Err e) rest after = (e ≡ IllFormedField column) × IllFormed (take 4 columns)
 
--- the columns begin with the line's field of the index from; the refusal names the first ill-formed field in so many bytes of them
-pub record IllWithin (bytes : ℕ) (columns : List ℕ) (from : ℕ) (e : Refusal) : Type 0 where
+-- the columns begin at this column of the line; the refusal names the first ill-formed field in so many bytes of them
+pub record IllWithin (bytes : ℕ) (columns : List ℕ) (column : ℕ) (e : Refusal) : Type 0 where
   pub index : ℕ
-  pub names : e ≡ IllFormedField (5 + 4 * (from + index))
+  pub names : e ≡ IllFormedField (column + 4 * index)
   pub inside : 4 * index < bytes
   pub ill : IllFormed (field_at columns index)
   pub before : (k : ℕ) → k < index → WellFormed (field_at columns k)
 
--- a page, a cell and a floor or level
-abbrev pub SpotRead : List ℕ → Result (ℕ × ℕ × ℕ) Refusal → Type 0
-SpotRead columns (Ok p) = BeginWith columns (p.0 ∷ p.1 ∷ p.2 ∷ [])
-SpotRead columns (Err e) = IllWithin 12 columns 0 e
+-- the numbers of so many fields, and the columns after them
+abbrev pub NumbersRead : (count : ℕ) → List ℕ → (column : ℕ) → Result (List ℕ) Refusal → List ℕ → (after : ℕ) → Type 0
+NumbersRead count columns column (Ok vs) rest after = (length vs ≡ count) × BeginWith columns vs × (rest ≡ drop (4 * count) columns) × (after ≡ column + 4 * count)
+NumbersRead count columns column (Err e) rest after = IllWithin (4 * count) columns column e
 
 -- the symbols after a save's page
-abbrev pub SymbolsRead : List ℕ → Result (Unit {0}) Refusal → Type 0
-SymbolsRead columns (Ok granted) = AllWellFormed columns
-SymbolsRead columns (Err e) = IllWithin (length columns) columns 1 e
+abbrev pub SymbolsRead : List ℕ → (column : ℕ) → Result (Unit {0}) Refusal → Type 0
+SymbolsRead columns column (Ok granted) = AllWellFormed columns
+SymbolsRead columns column (Err e) = IllWithin (length columns) columns column e
 
--- a line of this verb, from so many bytes of columns
-abbrev pub LineRead : Verb → (bytes : ℕ) → List ℕ → Result Line Refusal → Type 0
-LineRead v bytes columns (Ok l) = (verb_of l ≡ v) × BeginWith columns (numbers l) × Lends columns l
-LineRead v bytes columns (Err e) = IllWithin bytes columns 0 e
+-- a line of this verb, whose columns begin at this column of the line
+abbrev pub LineRead : Verb → List ℕ → (column : ℕ) → Result Line Refusal → Type 0
+LineRead v columns column (Ok l) = (verb_of l ≡ v) × BeginWith columns (numbers l) × Lends columns l
+LineRead v columns column (Err e) = IllWithin (length columns) columns column e

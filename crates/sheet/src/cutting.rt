@@ -12,9 +12,11 @@ pub fn cut_line<'a>(sheet: &'a [u8]) -> Option<(&'a [u8], &'a [u8])>
     if sheet.is_empty() {
         return None;
     }
-    match sheet.iter().position(|b| *b == b'\n') {
-        Some(feed) => Some((&sheet[..feed], &sheet[feed + 1..])),
-        None => Some((sheet, &[])),
+    let end = sheet.iter().position(|b| *b == b'\n');
+    let (line, after) = sheet.split_at(end.unwrap_or(sheet.len()));
+    match after {
+        [_, rest @ ..] => Some((line, rest)),
+        [] => Some((line, after)),
     }
 }
 

@@ -1,60 +1,50 @@
 // Fields of four columns, each a number right-justified after spaces.
-ghost use Rattle.std.specs.Prelude.{◌≡◌, ◌+◌, ◌<◌, [], ◌∷◌, MatchOption};
+ghost use Rattle.std.specs.Prelude.{◌≡◌, ◌+◌, ◌*◌, ◌<◌, MatchOption};
 ghost use Rattle.sheet.specs.Fields.{Field, IsDigit, Taken};
 
 /// The columns of a field.
 pub const FIELD: usize = 4;
 
 /// The number that four columns show.
-pub fn field(w: u8, x: u8, y: u8, z: u8) -> Option<u16>
-    ensures { Field (w ∷ x ∷ y ∷ z ∷ []) result }
+pub fn field(columns: &[u8; FIELD]) -> Option<u16>
+    ensures { Field columns.now result }
 {
-    if w == b' ' && x == b' ' && y == b' ' && z == b' ' {
-        return None;
+    match *columns {
+        [b' ', b' ', b' ', b' '] => None,
+        [b' ', b' ', b' ', z] => digit(z),
+        [b' ', b' ', y, z] => with_digit(first_digit(y)?, z),
+        [b' ', x, y, z] => with_digit(with_digit(first_digit(x)?, y)?, z),
+        [w, x, y, z] => with_digit(with_digit(with_digit(first_digit(w)?, x)?, y)?, z),
     }
-    let ones = digit(z)?;
-    if w == b' ' && x == b' ' && y == b' ' {
-        return Some(ones);
-    }
-    let tens = digit(y)?;
-    if w == b' ' && x == b' ' {
-        return leading(tens, 10 * tens + ones);
-    }
-    let hundreds = digit(x)?;
-    if w == b' ' {
-        return leading(hundreds, 100 * hundreds + 10 * tens + ones);
-    }
-    let thousands = digit(w)?;
-    leading(
-        thousands,
-        1000 * thousands + 100 * hundreds + 10 * tens + ones,
-    )
 }
 
 /// The digit that a column holds.
-fn digit(b: u8) -> Option<u16>
-    ensures { MatchOption result (IsDigit b → ⊥) (λ d. (d < 10) × (b ≡ 48 + d)) }
+fn digit(column: u8) -> Option<u16>
+    ensures { MatchOption result (IsDigit column → ⊥) (λ d. (d < 10) × (column ≡ 48 + d)) }
 {
-    match b {
-        b'0'..=b'9' => Some(u16::from(b - b'0')),
-        _ => None,
-    }
+    column.is_ascii_digit().then(|| u16::from(column - b'0'))
 }
 
-/// `value`, unless its first digit is a zero.
-fn leading(first: u16, value: u16) -> Option<u16>
-    ensures { MatchOption result (first ≡ 0) (λ v. (v ≡ value) × (0 < first)) }
+/// The digit that a number of several digits begins with: no zero.
+fn first_digit(column: u8) -> Option<u16>
+    ensures { MatchOption result (IsDigit column → column ≡ 48) (λ d. (0 < d) × (d < 10) × (column ≡ 48 + d)) }
 {
-    if first == 0 { None } else { Some(value) }
+    digit(column).filter(|d| *d != 0)
+}
+
+/// The number with one digit more.
+fn with_digit(number: u16, column: u8) -> Option<u16>
+    requires { number < 1000 }
+    ensures { MatchOption result (IsDigit column → ⊥) (λ v. IsDigit column × (v + 48 ≡ 10 * number + column)) }
+{
+    digit(column).map(|d| 10 * number + d)
 }
 
 /// The number in the first four columns, and the columns after them.
 pub fn take_field<'a>(columns: &'a [u8]) -> Option<(u16, &'a [u8])>
     ensures { Taken columns.now result }
 {
-    let [w, x, y, z, more @ ..] = columns else {
-        return None;
-    };
-    let value = field(*w, *x, *y, *z)?;
+    let (first, more) = columns.split_first_chunk()?;
+    let value = field(first)?;
     Some((value, more))
 }

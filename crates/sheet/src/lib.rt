@@ -4,6 +4,7 @@
 mod cutting;
 mod fields;
 mod parsing;
+mod reading;
 mod refusals;
 mod verbs;
 

@@ -1,14 +1,13 @@
 // What a line says: its verb, its numbers, and the symbols that it borrows from the sheet.
-ghost use Rattle.std.specs.Prelude.{◌<◌, ◌≤◌, length};
+ghost use Rattle.std.specs.Prelude.{length};
 ghost use Rattle.sheet.specs.Parsing.{Parsed};
 ghost use Rattle.sheet.specs.Readings.{OneReading};
-ghost use Rattle.sheet.specs.Steps.{Next, SpotRead, SymbolsRead, LineRead};
+ghost use Rattle.sheet.specs.Steps.{LineRead};
 ghost use Rattle.sheet.specs.Verbs.{Counted};
-ghost use Rattle.sheet.specs.declared.verbs.Verb.TheVariants.{Card as CardVerb, Same as SameVerb, Save as SaveVerb};
 
-use crate::fields::{FIELD, take_field};
+use crate::reading::Fields;
 use crate::refusals::Refusal;
-use crate::verbs::{Verb, counts, split_verb};
+use crate::verbs::{Verb, split_verb};
 
 /// The most bytes in a line.
 const LONGEST_LINE: usize = 1_028;
@@ -68,115 +67,59 @@ pub fn parse<'a>(line: &'a [u8]) -> Result<Line<'a>, Refusal>
     if line.len() > LONGEST_LINE {
         return Err(Refusal::LineLength);
     }
-    let Some((verb, columns)) = split_verb(line) else {
-        return Err(Refusal::UnknownVerb);
-    };
-    if !counts(verb, columns.len()) {
+    let (verb, columns) = split_verb(line).ok_or(Refusal::UnknownVerb)?;
+    if !verb.counts(columns.len()) {
         return Err(Refusal::FieldCount { bytes: line.len() });
     }
-    read_fields(verb, columns)
+    let column = FIRST_FIELD;
+    read_line(verb, Fields { columns, column })
 }
 
 /// The line of a verb and its fields.
-fn read_fields<'a>(verb: Verb, columns: &'a [u8]) -> Result<Line<'a>, Refusal>
-    requires within { length columns.now ≤ 1024 }
-    requires counted { Counted verb (length columns.now) }
-    ensures { LineRead verb (length columns.now) columns.now result }
+fn read_line<'a>(verb: Verb, mut fields: Fields<'a>) -> Result<Line<'a>, Refusal>
+    requires { Counted verb (length fields.columns.now) }
+    ensures { LineRead verb fields.entry.columns.now fields.entry.column result }
 {
     match verb {
-        Verb::Card => card(columns),
+        Verb::Card => {
+            let [alphabet, code, q, n, f, pages] = fields.numbers::<6>()?;
+            Ok(Line::Card {
+                alphabet,
+                code,
+                q,
+                n,
+                f,
+                pages,
+            })
+        }
         Verb::Floor => {
-            let (page, cell, floor) = spot(columns)?;
+            let [page, cell, floor] = fields.numbers::<3>()?;
             Ok(Line::Floor { page, cell, floor })
         }
         Verb::Worn => {
-            let (page, cell, floor) = spot(columns)?;
+            let [page, cell, floor] = fields.numbers::<3>()?;
             Ok(Line::Worn { page, cell, floor })
         }
         Verb::Move => {
-            let (page, cell, level) = spot(columns)?;
+            let [page, cell, level] = fields.numbers::<3>()?;
             Ok(Line::Move { page, cell, level })
         }
         Verb::Open => Ok(Line::Open),
         Verb::Read => {
-            let (page, _) = number(columns, 0)?;
+            let [page] = fields.numbers::<1>()?;
             Ok(Line::Read { page })
         }
-        Verb::Same => same(columns),
-        Verb::Save => save(columns),
-    }
-}
-
-fn card<'a>(columns: &'a [u8]) -> Result<Line<'a>, Refusal>
-    ensures { LineRead CardVerb 24 columns.now result }
-{
-    let (alphabet, rest) = number(columns, 0)?;
-    let (code, rest) = number(rest, 1)?;
-    let (q, rest) = number(rest, 2)?;
-    let (n, rest) = number(rest, 3)?;
-    let (f, rest) = number(rest, 4)?;
-    let (pages, _) = number(rest, 5)?;
-    Ok(Line::Card {
-        alphabet,
-        code,
-        q,
-        n,
-        f,
-        pages,
-    })
-}
-
-/// A page, a cell and a floor or level.
-fn spot(columns: &[u8]) -> Result<(u16, u16, u16), Refusal>
-    ensures { SpotRead columns.now result }
-{
-    let (page, rest) = number(columns, 0)?;
-    let (cell, rest) = number(rest, 1)?;
-    let (level, _) = number(rest, 2)?;
-    Ok((page, cell, level))
-}
-
-fn same<'a>(columns: &'a [u8]) -> Result<Line<'a>, Refusal>
-    ensures { LineRead SameVerb 8 columns.now result }
-{
-    let (one, rest) = number(columns, 0)?;
-    let (other, _) = number(rest, 1)?;
-    Ok(Line::Same { one, other })
-}
-
-fn save<'a>(columns: &'a [u8]) -> Result<Line<'a>, Refusal>
-    requires { (4 ≤ length columns.now) × (length columns.now ≤ 1024) }
-    ensures { LineRead SaveVerb (length columns.now) columns.now result }
-{
-    let (page, symbols) = number(columns, 0)?;
-    check_symbols(symbols)?;
-    Ok(Line::Save { page, symbols })
-}
-
-/// Refuses the first symbol that is no number.
-fn check_symbols(symbols: &[u8]) -> Result<(), Refusal>
-    requires { length symbols.now ≤ 1020 }
-    ensures { SymbolsRead symbols.now result }
-{
-    let mut rest = symbols;
-    let mut i = 0;
-    while !rest.is_empty() {
-        let (_, more) = number(rest, i + 1)?;
-        rest = more;
-        i += 1;
-    }
-    Ok(())
-}
-
-/// The number of the line's field of this index, and the columns after it.
-fn number<'a>(columns: &'a [u8], index: usize) -> Result<(u16, &'a [u8]), Refusal>
-    requires { index < 256 }
-    ensures { Next columns.now index result }
-{
-    match take_field(columns) {
-        Some(taken) => Ok(taken),
-        None => Err(Refusal::IllFormedField {
-            column: FIRST_FIELD + FIELD * index,
-        }),
+        Verb::Same => {
+            let [one, other] = fields.numbers::<2>()?;
+            Ok(Line::Same { one, other })
+        }
+        Verb::Save => {
+            let [page] = fields.numbers::<1>()?;
+            fields.check()?;
+            Ok(Line::Save {
+                page,
+                symbols: fields.columns,
+            })
+        }
     }
 }

@@ -16,6 +16,24 @@ pub enum Verb {
     Save,
 }
 
+impl Verb {
+    /// Whether so many bytes after the verb are as many fields as it takes, none of them broken.
+    pub(crate) fn counts(self, bytes: usize) -> bool
+        ensures { Tells result (Counted self bytes) }
+    {
+        let fields = bytes / FIELD;
+        bytes % FIELD == 0
+            && match self {
+                Verb::Card => fields == 6,
+                Verb::Floor | Verb::Worn | Verb::Move => fields == 3,
+                Verb::Open => fields == 0,
+                Verb::Read => fields == 1,
+                Verb::Same => fields == 2,
+                Verb::Save => fields >= 1,
+            }
+    }
+}
+
 /// The verb of a line, and the columns after it.
 pub(crate) fn split_verb<'a>(line: &'a [u8]) -> Option<(Verb, &'a [u8])>
     ensures { Begins line.now result }
@@ -30,23 +48,5 @@ pub(crate) fn split_verb<'a>(line: &'a [u8]) -> Option<(Verb, &'a [u8])>
         [b'S', b'A', b'M', b'E', rest @ ..] => Some((Verb::Same, rest)),
         [b'S', b'A', b'V', b'E', rest @ ..] => Some((Verb::Save, rest)),
         _ => None,
-    }
-}
-
-/// Whether so many bytes after the verb are as many fields as it has, none of them broken.
-pub(crate) fn counts(verb: Verb, bytes: usize) -> bool
-    ensures { Tells result (Counted verb bytes) }
-{
-    if bytes % FIELD != 0 {
-        return false;
-    }
-    let fields = bytes / FIELD;
-    match verb {
-        Verb::Card => fields == 6,
-        Verb::Floor | Verb::Worn | Verb::Move => fields == 3,
-        Verb::Open => fields == 0,
-        Verb::Read => fields == 1,
-        Verb::Same => fields == 2,
-        Verb::Save => fields >= 1,
     }
 }
