@@ -3,6 +3,7 @@ ghost use Rattle.std.specs.Prelude.{◌≡◌, ◌<◌, length, IfOk};
 ghost use Rattle.std.specs.Iterator.{YieldsFirstRef, item_count};
 ghost use Rattle.sheet.specs.Cutting.{FirstCut, NextCut, AllLines, lines_of, texts};
 
+use memchr::memchr;
 use std::alloc::{AllocError, Global};
 
 /// The first line, and the bytes after it.
@@ -12,8 +13,8 @@ pub fn cut_line<'a>(sheet: &'a [u8]) -> Option<(&'a [u8], &'a [u8])>
     if sheet.is_empty() {
         return None;
     }
-    let end = sheet.iter().position(|b| *b == b'\n');
-    let (line, after) = sheet.split_at(end.unwrap_or(sheet.len()));
+    let end = memchr(b'\n', sheet).unwrap_or(sheet.len());
+    let (line, after) = sheet.split_at(end);
     match after {
         [_, rest @ ..] => Some((line, rest)),
         [] => Some((line, after)),
