@@ -1,6 +1,7 @@
 mod Near
 mod ByLines
 mod Loops
+mod Rows
 pub mod Correcting
 mod Completing
 mod Fields

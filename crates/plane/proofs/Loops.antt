@@ -1,5 +1,6 @@
 -- The steps of the loops that take a word's sums: a level, a row and a place more. Assumes nothing.
-use Rattle.std.proofs.Common.{◌≡◌, ℕ, ◌+◌, ◌*◌, ◌%◌, ◌<◌, ◌≤◌, List, length, get_or, set, sym, refl, ap, ◌∙◌, subst, inl, inr, mul_comm, arith}
+use Rattle.std.proofs.Common.{◌≡◌, ℕ, zero, suc, ◌+◌, ◌*◌, ◌%◌, ◌<◌, ◌≤◌, List, [], ◌∷◌, length, get_or, set, sym, refl, ap, ◌∙◌, subst, inl, inr, add-zero, mul_comm, mod-lt, mod-eq_of_lt, arith}
+use Rattle.std.specs.List.{fold, zip, range_with_len}
 use lib.Arith.{digits_lt}
 use Rattle.std.proofs.lemmas.List.{get_or-set_same, get_or-set_other}
 use Rattle.std.proofs.lemmas.Bool.{cases_eq}
@@ -28,30 +29,46 @@ pub record RowsAdded (m : Arithmetic) (word : List ℕ) (n all by_row : ℕ) (co
   pub levels : all ≡ sum_of m n (λ a. row_part m word a m.size)
   pub rows : by_row ≡ sum_of m n (λ a. m.product a (row_part m word a m.size))
   pub summed : ColumnsSummed m word n columns
-  pub room : length columns ≡ 16
 
 module _ (m : Arithmetic) (l : Lawful m) where
-  -- one more place
-  pub place_more : (xs : List ℕ) (i all x r : ℕ) → i < m.size → ((j : ℕ) → j < m.size → get_or xs j 0 < m.size) → all ≡ sum_of m i (λ j. m.product j (get_or xs j 0))
-      → x ≡ m.product (i % m.size) (get_or xs i 0 % m.size) → r ≡ m.sum (all % m.size) (x % m.size) → r ≡ sum_of m (i + 1) (λ j. m.product j (get_or xs j 0))
-  place_more xs i all x r h below before here is =
-      sum_of_more m l i _ all x r (λ j less. l.product_below j (get_or xs j 0) (omega arith) (below j (omega arith))) before
-      (product_is m l i (get_or xs i 0) i (get_or xs i 0) x h (below i h) refl refl here) is
+  -- a symbol times its place added to what is there
+  abbrev pub add_place : ℕ → ℕ × ℕ → ℕ
+  add_place all p = m.sum (all % m.size) (m.product (p.0 % m.size) (p.1 % m.size) % m.size)
+
+  -- n more places from i on
+  places_from : (f : ℕ → ℕ) (below : (j : ℕ) → j < m.size → f j < m.size) (n i all : ℕ) (xs : List ℕ) → i + n ≤ m.size → n ≤ length xs
+      → ((k j : ℕ) → k < n → j ≡ i + k → m.product j (get_or xs k 0 % m.size) ≡ f j)
+      → all ≡ sum_of m i f → fold add_place all (zip (range_with_len i n) xs) ≡ sum_of m (i + n) f
+  places_from f below zero i all xs most long same before = before ∙ ap (λ (k : ℕ). sum_of m k f) (sym (add-zero i))
+  places_from f below (suc n) i all [] most long same before = absurd (omega arith)
+  places_from f below (suc n) i all (x ∷ xs) most long same before =
+      let here : m.product (i % m.size) (x % m.size) ≡ f i = ap (λ (k : ℕ). m.product k (x % m.size)) (mod-eq_of_lt (omega arith)) ∙ same 0 i (omega arith) (omega arith) in
+      let added : add_place all (i, x) ≡ sum_of m (i + 1) f = sum_of_more m l i f all (m.product (i % m.size) (x % m.size)) (add_place all (i, x)) (λ j less. below j (omega arith)) before here refl in
+      places_from f below n (i + 1) (add_place all (i, x)) xs (omega arith) (omega arith) (λ k j less is. same (suc k) j (omega arith) (omega arith)) added
+      ∙ ap (λ (k : ℕ). sum_of m k f) (omega arith)
+
+  pub places_added : (q : ℕ) (xs : List ℕ) → q ≡ m.size → length xs ≡ 16
+      → fold add_place 0 (zip (range_with_len 0 q) xs) ≡ sum_of m m.size (λ i. m.product i (get_or xs i 0 % m.size))
+  places_added q xs same long =
+      places_from (λ i. m.product i (get_or xs i 0 % m.size)) (λ j less. l.product_below j _ less (mod-lt (get_or xs j 0) (omega (arith, l.two))))
+      q 0 0 xs (omega arith) (omega (arith, l.sixteen)) (λ k j less is. ap (λ (i : ℕ). m.product j (get_or xs i 0 % m.size)) (omega arith)) refl
+      ∙ ap (λ (k : ℕ). sum_of m k (λ i. m.product i (get_or xs i 0 % m.size))) (omega arith)
 
 module _ (m : Arithmetic) (l : Lawful m) (word : List ℕ) (fit : Word (plane_over m) word) where
   -- one more level of row a
-  pub level_added : (q a b row r x : ℕ) (columns : List ℕ) → q ≡ m.size → b < m.size → m.size ≤ length columns → RowAdded m word a b row columns
-      → r ≡ m.sum (row % m.size) (get_or word (q * a + b) 0 % m.size)
-      → x ≡ m.sum (get_or columns b 0 % m.size) (get_or word (q * a + b) 0 % m.size)
+  pub level_added : (a b row r x level : ℕ) (columns : List ℕ) → b < m.size → length columns ≡ 16 → RowAdded m word a b row columns
+      → level ≡ get_or word (m.size * a + b) 0
+      → r ≡ m.sum (row % m.size) (level % m.size)
+      → x ≡ m.sum (get_or columns b 0 % m.size) (level % m.size)
       → RowAdded m word a (b + 1) r (set columns b x)
-  level_added q a b row r x columns same h room before row_here column_here =
-      let here : get_or word (q * a + b) 0 ≡ get_or word (m.size * a + b) 0 = ap (λ (k : ℕ). get_or word (k * a + b) 0) same in
+  level_added a b row r x level columns h sixteen before here row_here column_here =
+      let room : b < length columns = omega (arith, l.sixteen) in
       let sum_here : x ≡ column_part m word b (a + 1) =
-      sum_of_more m l a _ (get_or columns b 0) (get_or word (q * a + b) 0) x (λ i less. level_below m l word fit (m.size * i + b)) (before.left b (omega arith) h) here column_here in
+      sum_of_more m l a _ (get_or columns b 0) level x (λ i less. level_below m l word fit (m.size * i + b)) (before.left b (omega arith) h) here column_here in
       record {
-        row_sum = sum_of_more m l b _ row (get_or word (q * a + b) 0) r (λ i less. level_below m l word fit (m.size * a + i)) before.row_sum here row_here;
+        row_sum = sum_of_more m l b _ row level r (λ i less. level_below m l word fit (m.size * a + i)) before.row_sum here row_here;
         added = λ j less. elim (cases_eq j b) [
-          | inl last ↦ ap (λ (k : ℕ). get_or (set columns b x) k 0) last ∙ get_or-set_same columns b x 0 (omega arith) ∙ sum_here ∙ ap (λ (k : ℕ). column_part m word k (a + 1)) (sym last)
+          | inl last ↦ ap (λ (k : ℕ). get_or (set columns b x) k 0) last ∙ get_or-set_same columns b x 0 room ∙ sum_here ∙ ap (λ (k : ℕ). column_part m word k (a + 1)) (sym last)
           | inr other ↦ get_or-set_other columns b j x 0 other ∙ before.added j (omega arith)
         ];
         left = λ j past below. get_or-set_other columns b j x 0 (λ p. omega arith) ∙ before.left j (omega arith) below;
@@ -63,18 +80,14 @@ module _ (m : Arithmetic) (l : Lawful m) (word : List ℕ) (fit : Word (plane_ov
       → times ≡ m.product (a % m.size) (row % m.size)
       → all' ≡ m.sum (all % m.size) (row % m.size)
       → by_row' ≡ m.sum (by_row % m.size) (times % m.size)
-      → ColumnsSummed m word (a + 1) after → length after ≡ length columns
+      → ColumnsSummed m word (a + 1) after
       → RowsAdded m word (a + 1) all' by_row' after
-  row_added a all by_row row times all' by_row' columns after h before row_here product_here all_is by_row_is summed room = record {
+  row_added a all by_row row times all' by_row' columns after h before row_here product_here all_is by_row_is summed = record {
     levels = sum_of_more m l a _ all row all' (λ j less. row_below m l word fit j m.size) before.levels row_here all_is;
     rows = sum_of_more m l a _ by_row times by_row' (λ j less. l.product_below j _ (omega arith) (row_below m l word fit j m.size)) before.rows
         (product_is m l a _ a row times h (row_below m l word fit a m.size) refl row_here product_here) by_row_is;
     summed = summed;
-    room = room ∙ before.room;
   }
-
-  pub summed_below : (columns : List ℕ) (n : ℕ) → ColumnsSummed m word n columns → (b : ℕ) → b < m.size → get_or columns b 0 < m.size
-  summed_below columns n summed b h = subst (λ (k : ℕ). k < m.size) (sym (summed b h)) (column_below m l word fit b n)
 
   -- all rows
   pub levels_all : (n all by_row : ℕ) (columns : List ℕ) → n ≡ m.size → RowsAdded m word n all by_row columns → all ≡ levels_sum m word
@@ -86,8 +99,9 @@ module _ (m : Arithmetic) (l : Lawful m) (word : List ℕ) (fit : Word (plane_ov
       done.rows ∙ ap (λ (k : ℕ). sum_of m k (λ a. m.product a (row_part m word a m.size))) last ∙ sym (rows_from_rows m l word fit)
 
   pub columns_all : (n by_column : ℕ) (columns : List ℕ) → n ≡ m.size → ColumnsSummed m word n columns
-      → by_column ≡ sum_of m m.size (λ b. m.product b (get_or columns b 0)) → by_column ≡ columns_sum m word
+      → by_column ≡ sum_of m m.size (λ b. m.product b (get_or columns b 0 % m.size)) → by_column ≡ columns_sum m word
   columns_all n by_column columns last summed is =
       is
-      ∙ sum_of_same m l m.size _ _ (λ b less. ap (m.product b) (summed b less ∙ ap (column_part m word b) last))
+      ∙ sum_of_same m l m.size _ _ (λ b less.
+      ap (λ (k : ℕ). m.product b (k % m.size)) (summed b less ∙ ap (column_part m word b) last) ∙ ap (m.product b) (mod-eq_of_lt (column_below m l word fit b m.size)))
       ∙ sym (columns_from_columns m l word fit)

@@ -11,7 +11,7 @@ mod three_sums;
 use alphabet::{Alphabet, Field, Refusal};
 use code::{Code, check_word};
 use repairs::{fill_checks, mend};
-use three_sums::sums_of;
+use three_sums::Rows;
 
 /// How many cells of a word can be wrong and are still corrected.
 const RADIUS: usize = 1;
@@ -47,7 +47,7 @@ impl<F: Field> Code for Plane<F> {
     }
 
     fn length(&self) -> usize {
-        let q = self.field.size() as usize;
+        let q = usize::from(self.field.size());
         q * q
     }
 
@@ -60,7 +60,7 @@ impl<F: Field> Code for Plane<F> {
     }
 
     fn information_cell(&self, index: usize) -> Option<usize> {
-        let q = self.field.size() as usize;
+        let q = usize::from(self.field.size());
         if index >= self.dimension() {
             None
         } else if index < q - FIRST_CHECKS {
@@ -78,19 +78,19 @@ impl<F: Field> Code for Plane<F> {
 
     fn correct(&self, word: &mut [u8]) -> Result<usize, Refusal> {
         check_word(self.length(), self.field.size(), word)?;
-        let sums = sums_of(&self.field, word);
+        let alphabet = &self.field;
+        let sums = Rows { alphabet, word }.sums();
         if sums.levels == 0 {
-            if sums.rows == 0 && sums.columns == 0 {
-                return Ok(0);
-            }
-            return Err(Refusal::TooFar);
+            return if sums.rows == 0 && sums.columns == 0 {
+                Ok(0)
+            } else {
+                Err(Refusal::TooFar)
+            };
         }
-        match self.field.inverse(sums.levels) {
-            Some(inverse) => {
-                mend(&self.field, word, sums, inverse);
-                Ok(1)
-            }
-            None => unreachable(),
-        }
+        let Some(inverse) = self.field.inverse(sums.levels) else {
+            unreachable()
+        };
+        mend(alphabet, word, sums, inverse);
+        Ok(1)
     }
 }

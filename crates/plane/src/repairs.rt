@@ -5,7 +5,7 @@ ghost use Rattle.code.specs.Calls.{Completes, Corrects};
 ghost use Rattle.plane.specs.Plane.{plane_over};
 ghost use Rattle.plane.specs.Lines.{SumsOf, Inverts};
 
-use super::three_sums::{Sums, sums_of};
+use crate::three_sums::{Rows, Sums};
 use alphabet::Alphabet;
 
 /// Writes the three check cells: 0, 1 and the first of the second row.
@@ -24,9 +24,9 @@ pub(crate) fn fill_checks<A: Alphabet>(alphabet: &A, word: &mut [u8])
     requires { Word (plane_over (A.Alphabet.meaning alphabet.now)) word.old }
     ensures { Completes (plane_over (A.Alphabet.meaning alphabet.now)) word.old word.new }
 {
-    let q = alphabet.size() as usize;
+    let q = usize::from(alphabet.size());
     put_checks(word, q, 0, 0, 0);
-    let sums = sums_of(alphabet, word);
+    let sums = Rows { alphabet, word }.sums();
     let at_q = alphabet.negative(sums.rows);
     let at_1 = alphabet.negative(sums.columns);
     let checks = alphabet.sum(at_q, at_1);
@@ -44,7 +44,7 @@ pub(crate) fn mend<A: Alphabet>(alphabet: &A, word: &mut [u8], sums: Sums, inver
 {
     let row = alphabet.product(sums.rows, inverse);
     let column = alphabet.product(sums.columns, inverse);
-    let cell = alphabet.size() as usize * row as usize + column as usize;
+    let cell = usize::from(alphabet.size()) * usize::from(row) + usize::from(column);
     let down = alphabet.negative(sums.levels);
     word[cell] = alphabet.sum(word[cell], down);
 }

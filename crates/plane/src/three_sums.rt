@@ -1,5 +1,5 @@
 // The three sums of a word, in one pass over its cells.
-ghost use Rattle.std.specs.Prelude.{◌≡◌, ℕ, ◌+◌, ◌<◌, ◌≤◌, length, slice_index};
+ghost use Rattle.std.specs.Prelude.{◌≡◌, ℕ, ◌+◌, ◌<◌, ◌%◌, slice_index};
 ghost use Rattle.code.specs.Words.{Word};
 ghost use Rattle.sums.specs.Sums.{sum_of};
 ghost use Rattle.plane.specs.Plane.{plane_over};
@@ -11,64 +11,66 @@ use alphabet::Alphabet;
 const MOST_SYMBOLS: usize = 16;
 
 /// What a word's levels, its levels times their rows and its levels times their columns sum to.
-#[derive(Clone, Copy)]
+#[derive(Debug, Clone, Copy, PartialEq, Eq)]
 pub struct Sums {
     pub levels: u8,
     pub rows: u8,
     pub columns: u8,
 }
 
-/// Adds row `a` to the sums of the columns, and answers the row's own sum.
-fn add_row<A: Alphabet>(alphabet: &A, word: &[u8], a: u8, columns: &mut [u8]) -> u8
-    requires fit { Word (plane_over (A.Alphabet.meaning alphabet.now)) word.now }
-    requires below { a < (A.Alphabet.meaning alphabet.now).size }
-    requires room { (A.Alphabet.meaning alphabet.now).size ≤ length columns.old }
-    requires summed { ColumnsSummed (A.Alphabet.meaning alphabet.now) word.now a columns.old }
-    ensures row { result ≡ row_part (A.Alphabet.meaning alphabet.now) word.now a (A.Alphabet.meaning alphabet.now).size }
-    ensures summed { ColumnsSummed (A.Alphabet.meaning alphabet.now) word.now (a + 1) columns.new }
-{
-    let q = alphabet.size() as usize;
-    let start = q * a as usize;
-    let mut row = 0;
-    for b in 0..q {
-        let level = word[start + b];
-        row = alphabet.sum(row, level);
-        columns[b] = alphabet.sum(columns[b], level);
+/// A word of the plane over an alphabet: q rows of q symbols.
+#[derive(Drop)]
+pub(crate) struct Rows<'a, A: Alphabet> {
+    pub(crate) alphabet: &'a A,
+    pub(crate) word: &'a [u8],
+    ghost fit: { Word (plane_over (A.Alphabet.meaning alphabet.now)) word.now },
+}
+
+impl<'a, A: Alphabet> Rows<'a, A> {
+    /// Adds row `a` to the sums of the columns, and answers the row's own sum.
+    fn add(&self, a: u8, columns: &mut [u8; MOST_SYMBOLS]) -> u8
+        requires below { a < (A.Alphabet.meaning self.now.alphabet.now).size }
+        requires summed { ColumnsSummed (A.Alphabet.meaning self.now.alphabet.now) self.now.word.now a columns.old }
+        ensures row { let m = A.Alphabet.meaning self.now.alphabet.now in result ≡ row_part m self.now.word.now a m.size }
+        ensures summed { ColumnsSummed (A.Alphabet.meaning self.now.alphabet.now) self.now.word.now (a + 1) columns.new }
+    {
+        let q = usize::from(self.alphabet.size());
+        let start = q * usize::from(a);
+        let row = &self.word[start..start + q];
+        let mut sum = 0;
+        for (b, level) in row.iter().enumerate() {
+            sum = self.alphabet.sum(sum, *level);
+            columns[b] = self.alphabet.sum(columns[b], *level);
+        }
+        sum
     }
-    row
+
+    /// The three sums of the word.
+    pub(crate) fn sums(&self) -> Sums
+        ensures { SumsOf (A.Alphabet.meaning self.now.alphabet.now) self.now.word.now result }
+    {
+        let mut levels = 0;
+        let mut rows = 0;
+        let mut columns = [0; MOST_SYMBOLS];
+        for a in 0..self.alphabet.size() {
+            let row = self.add(a, &mut columns);
+            levels = self.alphabet.sum(levels, row);
+            rows = self.alphabet.sum(rows, self.alphabet.product(a, row));
+        }
+        Sums {
+            levels,
+            rows,
+            columns: by_place(self.alphabet, &columns),
+        }
+    }
 }
 
 /// The sum of the first symbols, as many as there are in the alphabet, each times its place.
-fn by_place<A: Alphabet>(alphabet: &A, symbols: &[u8]) -> u8
-    requires room { (A.Alphabet.meaning alphabet.now).size ≤ length symbols.now }
-    requires below { (i : ℕ) → i < (A.Alphabet.meaning alphabet.now).size → slice_index symbols.now i < (A.Alphabet.meaning alphabet.now).size }
-    ensures { result ≡ sum_of (A.Alphabet.meaning alphabet.now) (A.Alphabet.meaning alphabet.now).size (λ i. (A.Alphabet.meaning alphabet.now).product i (slice_index symbols.now i)) }
+fn by_place<A: Alphabet>(alphabet: &A, symbols: &[u8; MOST_SYMBOLS]) -> u8
+    ensures { let m = A.Alphabet.meaning alphabet.now in result ≡ sum_of m m.size (λ i. m.product i (slice_index symbols.now i % m.size)) }
 {
-    let mut all = 0;
-    for i in 0..alphabet.size() {
-        let times = alphabet.product(i, symbols[i as usize]);
-        all = alphabet.sum(all, times);
-    }
-    all
-}
-
-/// The three sums of a word.
-pub(crate) fn sums_of<A: Alphabet>(alphabet: &A, word: &[u8]) -> Sums
-    requires { Word (plane_over (A.Alphabet.meaning alphabet.now)) word.now }
-    ensures { SumsOf (A.Alphabet.meaning alphabet.now) word.now result }
-{
-    let mut levels = 0;
-    let mut rows = 0;
-    let mut columns = [0; MOST_SYMBOLS];
-    for a in 0..alphabet.size() {
-        let row = add_row(alphabet, word, a, &mut columns);
-        levels = alphabet.sum(levels, row);
-        let times = alphabet.product(a, row);
-        rows = alphabet.sum(rows, times);
-    }
-    Sums {
-        levels,
-        rows,
-        columns: by_place(alphabet, &columns),
-    }
+    (0..alphabet.size()).zip(symbols).fold(
+        0,
+        |all, (i, symbol)| alphabet.sum(all, alphabet.product(i, *symbol)),
+    )
 }

@@ -1,4 +1,4 @@
-use Rattle.std.proofs.Common.{arith}
+use Rattle.std.proofs.Common.{◌∙◌, arith}
 use Rattle.plane.proofs.Completing.{size_inside, blanked, completed}
 use Rattle.plane.proofs.repairs.fill_checks.Goals as goal
 
@@ -7,27 +7,29 @@ put_checks-requires g c =
     let m = g.A.Alphabet.meaning c.args.alphabet.now in
     let l = g.met.A.Alphabet.lawful c.args.alphabet.now in
     record {
-      inside = size_inside m l c.args.word.now c.requires c.size-q.result c.size-q.ensures;
-      apart = omega (arith, l.two, c.size-q.ensures);
+      inside = size_inside m l c.args.word.now c.requires c.from-q.result (c.from-q.ensures ∙ c.size.ensures);
+      apart = omega (arith, l.two, c.from-q.ensures, c.size.ensures);
     }
 
-pub sums_of-sums-requires : goal.sums_of-sums-requires
-sums_of-sums-requires g c =
-    blanked (g.A.Alphabet.meaning c.args.alphabet.now) (g.met.A.Alphabet.lawful c.args.alphabet.now) c.args.word.now c.requires c.size-q.result c.put_checks.new.word c.put_checks.ensures
+pub invariant_of-sums : goal.invariant_of-sums
+invariant_of-sums g c = record {
+  fit = blanked (g.A.Alphabet.meaning c.args.alphabet.now) (g.met.A.Alphabet.lawful c.args.alphabet.now) c.args.word.now c.requires
+      c.from-q.result c.put_checks.new.word c.put_checks.ensures;
+}
 
 pub put_checks-requires-2 : goal.put_checks-requires-2
 put_checks-requires-2 g c =
     let m = g.A.Alphabet.meaning c.args.alphabet.now in
     let l = g.met.A.Alphabet.lawful c.args.alphabet.now in
     record {
-      inside = omega (arith, c.put_checks.auto.word, size_inside m l c.args.word.now c.requires c.size-q.result c.size-q.ensures);
-      apart = omega (arith, l.two, c.size-q.ensures);
+      inside = omega (arith, c.put_checks.auto.word, size_inside m l c.args.word.now c.requires c.from-q.result (c.from-q.ensures ∙ c.size.ensures));
+      apart = omega (arith, l.two, c.from-q.ensures, c.size.ensures);
     }
 
 pub returns : goal.returns
 returns g c =
     completed (g.A.Alphabet.meaning c.args.alphabet.now) (g.met.A.Alphabet.lawful c.args.alphabet.now) c.args.word.now c.requires
-    c.size-q.result c.put_checks.new.word c.put_checks-2.new.word c.sums_of-sums.result
+    c.from-q.result c.put_checks.new.word c.put_checks-2.new.word c.sums-sums.result
     c.negative-at_q.result c.negative-at_1.result c.sum-checks.result c.sum-all.result c.negative-at_0.result
-    c.size-q.ensures c.put_checks.ensures c.sums_of-sums.ensures
+    (c.from-q.ensures ∙ c.size.ensures) c.put_checks.ensures c.sums-sums.ensures
     c.negative-at_q.ensures c.negative-at_1.ensures c.sum-checks.ensures c.sum-all.ensures c.negative-at_0.ensures c.put_checks-2.ensures

@@ -1,5 +1,0 @@
-use Rattle.plane.proofs.Loops.{RowsAdded}
-use Rattle.plane.proofs.three_sums.sums_of.Given as goal
-
-abbrev pub invariant-loop-a : goal.invariant-loop-a
-invariant-loop-a g l = RowsAdded (g.A.Alphabet.meaning l.alphabet) l.word l.a l.levels l.rows l.columns
