@@ -36,12 +36,13 @@ impl Residues {
         ensures { result ≡ total % self.now.q }
     {
         let q = u16::from(self.q);
-        let symbol = if total < q {
-            total
-        } else if total < 2 * q {
-            total - q
-        } else {
+        // in another order of these tests sums of symbols took 1.7 times as long
+        let symbol = if total >= 2 * q {
             total % q
+        } else if total < q {
+            total
+        } else {
+            total - q
         };
         symbol as u8
     }
