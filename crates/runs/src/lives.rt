@@ -50,6 +50,7 @@ fn take_floors<C: Code>(
     ensures { MatchResult result (λ v. (vec_len v ≡ length floors.now) × BenchContinuesAll C.Code.meaning card.old floors.now v.items card.new) (λ e. e ≡ Memory) }
 {
     let mut answers = Vec::new(heap);
+    // A loop: of what a closure borrows and changes, `map` and `collect` tell a proof nothing.
     for floor in floors {
         let answer = set_floor(card, *floor);
         answers.push(answer)?;
@@ -66,6 +67,7 @@ fn serve<C: Code>(
     ensures { MatchResult result (λ v. (vec_len v ≡ length calls.now) × ContinuesAll C.Code.meaning card.old calls.now v.items card.new) (λ e. e ≡ Memory) }
 {
     let mut replies = Vec::new(heap);
+    // A loop, as for the floors.
     for request in calls {
         let answer = perform(card, heap, *request)?;
         replies.push(answer)?;

@@ -11,6 +11,7 @@ pub struct BenchFloor {
 }
 
 /// A call of a card in service.
+// Wear and drift spell out what a `BenchFloor` has: the last field's name says what the number is, a floor or a level.
 #[derive(Clone, Copy, Debug, PartialEq, Eq)]
 pub enum Request<'a> {
     /// Save these symbols.
