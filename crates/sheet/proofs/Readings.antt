@@ -8,7 +8,7 @@ use Rattle.sheet.specs.declared.verbs.Verb.TheVariants as verb
 use Rattle.sheet.specs.declared.parsing.Line.{Line}
 use Rattle.sheet.specs.declared.parsing.Line.TheVariants.{Card, Floor, Worn, Move, Open, Read, Same, Save}
 use Rattle.sheet.specs.Fields.{Shows, WellFormed}
-use Rattle.sheet.specs.Verbs.{name, wants, Counted}
+use Rattle.sheet.specs.Verbs.{name, Counted}
 use Rattle.sheet.specs.Parsing.{verb_of, numbers, field_at, BeginWith, AllWellFormed, Lends, FirstIll, Parsed}
 use Rattle.sheet.specs.Readings.{symbols_of, told, OneReading}
 use Rattle.sheet.proofs.Shown.{Forms, forms, shown_long}
@@ -58,6 +58,17 @@ same_numbers cs (u ∷ us) (v ∷ vs) l p q =
     let head : u ≡ v = same_number cs u v p.0 q.0 in
     let tail : us ≡ vs = same_numbers (drop 4 cs) us vs (omega arith) p.1 q.1 in
     cc
+
+-- how many numbers a verb's line gives
+abbrev wants : Verb → ℕ
+wants verb.Card = 6
+wants verb.Floor = 3
+wants verb.Worn = 3
+wants verb.Move = 3
+wants verb.Open = 0
+wants verb.Read = 1
+wants verb.Same = 2
+wants verb.Save = 1
 
 counted_numbers : (l : Line) → length (numbers l) ≡ wants (verb_of l)
 counted_numbers (Card alphabet code q n f pages) = refl

@@ -1,8 +1,7 @@
--- Taking a save's symbols off one after another: what was taken so far, that one more is there, and that they are whole fields.
-use Rattle.std.proofs.Common.{◌≡◌, ℕ, suc, ◌+◌, ◌*◌, ◌%◌, ◌<◌, List, [], ◌∷◌, ◌++◌, length, take, drop, Ok, sym, ap, ◌∙◌, subst, arith, length-drop, drop-drop, Bor}
-use Rattle.sheet.specs.declared.parsing.Line.TheVariants.{Save}
+-- Taking a save's symbols off one after another: what was taken so far, and that one more is there.
+use Rattle.std.proofs.Common.{◌≡◌, ℕ, suc, ◌+◌, ◌*◌, ◌<◌, List, [], ◌∷◌, ◌++◌, length, take, drop, sym, ap, ◌∙◌, subst, arith, length-drop, drop-drop}
 use Rattle.sheet.specs.Fields.{Shows, IllFormed}
-use Rattle.sheet.specs.Parsing.{BeginWith, AllWellFormed, Parsed}
+use Rattle.sheet.specs.Parsing.{BeginWith, AllWellFormed}
 
 -- one symbol more
 pub begin_push : (cs vs rest : List ℕ) (v : ℕ) → BeginWith cs vs → rest ≡ drop (4 * length vs) cs → Shows (take 4 rest) v → BeginWith cs (vs ++ v ∷ [])
@@ -17,8 +16,3 @@ symbol_there cs rest i all e some ill =
     let inside : 4 * i < length cs = omega (arith, ap length e, length-drop (4 * i) cs) in
     let w = all i inside in
     ill w.0 (subst (λ k. Shows (take 4 k) w.0) (sym e) w.1)
-
--- a save's symbols are whole fields
-pub symbols_whole : (line : List ℕ) (page : ℕ) (symbols : Bor (List ℕ)) → Parsed line (Ok (Save page symbols)) → length symbols.now % 4 ≡ 0
-symbols_whole line page symbols p =
-    omega (arith, p.0.counted.0, p.0.counted.1, ap length p.2.0, length-drop 4 (drop 4 line))

@@ -1,6 +1,5 @@
 -- What the steps that read a line's fields answer: the next number, or the refusal of the first field that shows none. Assumes nothing.
-use Rattle.std.specs.Prelude.{◌≡◌, ℕ, ◌+◌, ◌*◌, ◌<◌, List, [], ◌∷◌, length, take, drop, Ok, Err, Result}
-use Rattle.std.specs.Borrow.{Bor}
+use Rattle.std.specs.Prelude.{◌≡◌, ℕ, ◌+◌, ◌*◌, ◌<◌, List, length, take, drop, Ok, Err, Result}
 use Rattle.sheet.specs.declared.refusals.Refusal.{Refusal}
 use Rattle.sheet.specs.declared.refusals.Refusal.TheVariants.{IllFormedField}
 use Rattle.sheet.specs.declared.verbs.Verb.{Verb}

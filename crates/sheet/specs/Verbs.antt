@@ -19,17 +19,6 @@ abbrev pub Begins : List ℕ → Option (Verb × Bor (List ℕ)) → Type 0
 Begins line (Some p) = (take 4 line ≡ name p.0) × (p.1.now ≡ drop 4 line)
 Begins line None = (v : Verb) → take 4 line ≢ name v
 
--- how many numbers a verb's line gives
-abbrev pub wants : Verb → ℕ
-wants Card = 6
-wants Floor = 3
-wants Worn = 3
-wants Move = 3
-wants Open = 0
-wants Read = 1
-wants Same = 2
-wants Save = 1
-
 -- a verb takes so many fields
 abbrev pub Takes : Verb → ℕ → Type 0
 Takes Card fields = fields ≡ 6

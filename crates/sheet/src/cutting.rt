@@ -13,11 +13,9 @@ pub fn cut_line<'a>(sheet: &'a [u8]) -> Option<(&'a [u8], &'a [u8])>
     if sheet.is_empty() {
         return None;
     }
-    let end = memchr(b'\n', sheet).unwrap_or(sheet.len());
-    let (line, after) = sheet.split_at(end);
-    match after {
-        [_, rest @ ..] => Some((line, rest)),
-        [] => Some((line, after)),
+    match memchr(b'\n', sheet) {
+        Some(feed) => Some((&sheet[..feed], &sheet[feed + 1..])),
+        None => Some((sheet, &[])),
     }
 }
 

@@ -22,7 +22,7 @@ impl Verb {
         ensures { Tells result (Counted self bytes) }
     {
         let fields = bytes / FIELD;
-        bytes % FIELD == 0
+        bytes.is_multiple_of(FIELD)
             && match self {
                 Verb::Card => fields == 6,
                 Verb::Floor | Verb::Worn | Verb::Move => fields == 3,
@@ -35,6 +35,7 @@ impl Verb {
 }
 
 /// The verb of a line, and the columns after it.
+#[tactic(auto, using(crate::proofs::Shown::front_is))]
 pub(crate) fn split_verb<'a>(line: &'a [u8]) -> Option<(Verb, &'a [u8])>
     ensures { Begins line.now result }
 {

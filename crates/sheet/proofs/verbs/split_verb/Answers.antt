@@ -1,33 +1,9 @@
--- Each verb's arm: the four bytes are its name, and the rest follows.
+-- A line that begins with no verb: some letter of each name is not there.
 use Rattle.std.proofs.Common.{◌≡◌, take, rules}
 use Rattle.sheet.specs.Verbs.{name}
 use Rattle.sheet.specs.declared.verbs.Verb.TheVariants.{Card, Floor, Worn, Move, Open, Read, Same, Save}
-use Rattle.sheet.proofs.Shown.{front_is, letters}
+use Rattle.sheet.proofs.Shown.{letters}
 use Rattle.sheet.proofs.verbs.split_verb.Goals as goal
-
-pub returns-in-67 : goal.returns-in-67
-returns-in-67 c = search (rules, front_is)
-
-pub returns-in-70 : goal.returns-in-70
-returns-in-70 c = search (rules, front_is)
-
-pub returns-in-87 : goal.returns-in-87
-returns-in-87 c = search (rules, front_is)
-
-pub returns-in-77 : goal.returns-in-77
-returns-in-77 c = search (rules, front_is)
-
-pub returns-in-79 : goal.returns-in-79
-returns-in-79 c = search (rules, front_is)
-
-pub returns-in-82 : goal.returns-in-82
-returns-in-82 c = search (rules, front_is)
-
-pub returns-in-83 : goal.returns-in-83
-returns-in-83 c = search (rules, front_is)
-
-pub returns-in-83-2 : goal.returns-in-83-2
-returns-in-83-2 c = search (rules, front_is)
 
 pub returns-in_default : goal.returns-in_default
 returns-in_default c = λ v. elim v as (λ u. take 4 c.args.line.now ≡ name u → ⊥) [

@@ -1,5 +1,5 @@
 -- A line that is cut off is the first of the lines, and what follows it has the others.
-use Rattle.std.proofs.Common.{ℕ, List, length, Some, None, Option, ap, arith, Bor, rules}
+use Rattle.std.proofs.Common.{ℕ, List, length, Some, None, Option, ap, Bor, rules}
 use Rattle.std.specs.Bool.{⊤}
 use Rattle.std.specs.Iterator.{YieldsFirstRef, item_count, MakesProgress}
 use Rattle.sheet.specs.declared.cutting.Lines.{Lines}

@@ -1,5 +1,5 @@
 -- The numbers so far are those of the fields that were read.
-use Rattle.std.proofs.Common.{◌≡◌, length, take, sym, subst, ap, ◌∙◌, arith, length-set, length-take, ◌<◌}
+use Rattle.std.proofs.Common.{◌≡◌, length, take, subst, ◌∙◌, arith, length-set, length-take, ◌<◌}
 use Rattle.std.proofs.lemmas.List.{take_more_set, take_all}
 use Rattle.std.proofs.lemmas.Result.{err_from_is_err_and}
 use Rattle.sheet.proofs.Steps.{Sofar, one_more, numbers_read, ill}
