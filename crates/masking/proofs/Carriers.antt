@@ -1,6 +1,6 @@
 -- The code words that carry a message: one for each mask, shifts of one another; and the message of a code word. Assumes nothing.
-use Rattle.std.proofs.Common.{◌≡◌, ℕ, zero, suc, ◌<◌, ◌≤◌, true, List, [], ◌∷◌, map, length, get_or, sym, refl, ap, ◌∙◌, ap₂, arith}
-use Rattle.std.proofs.lemmas.List.{length-map, get_or-map}
+use Rattle.std.proofs.Common.{◌≡◌, ℕ, zero, suc, ◌<◌, ◌≤◌, true, List, ◌∷◌, map, length, get_or, sym, ap, ◌∙◌, ap₂, arith}
+use Rattle.std.proofs.lemmas.List.{length-map, get_or-map, map-id}
 use Rattle.code.specs.Words.{BlockCode, Symbols, Message, Carries, symbols_at, first, rest, mask_of}
 use Rattle.code.specs.Laws.{CodeLaws}
 use Rattle.code.specs.Cells.{below_anywhere, length_at, at_below, at_map, at_split, length_rest, first_within, rest_within}
@@ -101,9 +101,5 @@ module _ (code : BlockCode) (laws : CodeLaws code) where
       record {
         held = held;
         carried = sym (map_after code.arithmetic.size (code.arithmetic.sum u) (code.arithmetic.sum (code.arithmetic.negative u)) (λ x. x) (λ x l. redone code.arithmetic laws.arithmetic u x (mask_low w held) l) xs
-            (at_below code.arithmetic.size w (rest code.information) (word_low w held)) ∙ map_plain xs);
+            (at_below code.arithmetic.size w (rest code.information) (word_low w held)) ∙ map-id xs);
       }
-    where
-      map_plain : (ys : List ℕ) → map (λ x. x) ys ≡ ys
-      map_plain [] = refl
-      map_plain (y ∷ ys) = ap (λ t. y ∷ t) (map_plain ys)

@@ -1,7 +1,7 @@
 -- The code word that writing chooses: the completed message shifted by the mask that was found. Assumes nothing.
-use Rattle.std.proofs.Common.{◌≡◌, ℕ, suc, ◌<◌, ◌≤◌, true, List, [], ◌∷◌, map, length, sym, refl, ap, ◌∙◌, subst, ap₂, arith}
+use Rattle.std.proofs.Common.{◌≡◌, ℕ, suc, ◌<◌, ◌≤◌, true, List, [], ◌∷◌, map, sym, refl, ap, ◌∙◌, subst, ap₂, arith}
 use Rattle.alphabet.specs.Arithmetic.{Arithmetic}
-use Rattle.code.specs.Words.{BlockCode, Filled, Message, Carries, symbols_at, first, rest, mask_of}
+use Rattle.code.specs.Words.{BlockCode, Message, Carries, symbols_at, first, rest, mask_of}
 use Rattle.code.specs.Laws.{CodeLaws}
 use Rattle.code.specs.Cells.{Below, at_split}
 use Rattle.masking.specs.Floors.{Fewest, raised}
@@ -34,11 +34,6 @@ module _ (code : BlockCode) (laws : CodeLaws code) (message base : List ℕ) (sy
   }
 
   module _ (m : Arithmetic) (agrees : m ≡ code.arithmetic) (floors : List ℕ) where
-    pub base_filled : length floors ≡ code.cells → Filled (length floors) m.size base
-    base_filled whole =
-        let fit = laws.words base held in
-        record { whole = fit.whole ∙ sym whole; symbols = λ i l. subst (λ (k : Arithmetic). Below k.size base) (sym agrees) fit.symbols i l }
-
     pub chosen : (mask forced : ℕ) → FewestBelow m floors base m.size mask forced → Fewest code floors message mask forced (shift code.arithmetic mask base)
     chosen mask forced few = fewest_shift code laws base message symbols base_carries base_plain floors mask forced (subst (λ (k : Arithmetic). FewestBelow k floors base k.size mask forced) agrees few)
 

@@ -1,6 +1,7 @@
 -- Sums over the numbers below n, and the pigeonhole law. Assumes nothing.
 use Rattle.std.proofs.Common.{◌≡◌, ℕ, zero, suc, ◌+◌, ◌-◌, ◌*◌, ◌<◌, ◌≤◌, ◌⊎◌, sym, refl, ap, ◌∙◌, inl, inr, ⊎_elim, suc-mul, mul-suc, arith}
 use Rattle.std.proofs.lemmas.Bool.{cases_lt}
+use Rattle.std.proofs.lemmas.Bool.Decides.{nat_tests}
 use Rattle.code.specs.Differences.{differ, differ_way}
 use Rattle.masking.proofs.Unmet.{missed, missed_way}
 
@@ -45,11 +46,7 @@ hits_once (suc n) s f once =
 
 missed_more : (x s : ℕ) → missed x (suc s) ≡ missed x s + hits x s
 unfolding hits
-missed_more x s =
-    ⊎_elim
-    (λ a. ⊎_elim (λ b. ⊎_elim (λ d. absurd (omega (arith, b.0, d.0))) (λ d. omega (arith, a.1, b.1, d.1)) (differ_way x s)) (λ b. ⊎_elim (λ d. omega (arith, a.1, b.1, d.1)) (λ d. absurd (d.0 (omega (arith, a.0, b.0)))) (differ_way x s)) (missed_way x s))
-    (λ a. ⊎_elim (λ b. absurd (omega (arith, a.0, b.0))) (λ b. ⊎_elim (λ d. absurd (omega (arith, a.0, d.0))) (λ d. omega (arith, a.1, b.1, d.1)) (differ_way x s)) (missed_way x s))
-    (missed_way x (suc s))
+missed_more x s = grind (arith, nat_tests)
 
 over_missed_more : (n s : ℕ) (f : ℕ → ℕ) → over n (λ z. missed (f z) (suc s)) ≡ over n (λ z. missed (f z) s) + over n (λ z. hits (f z) s)
 unfolding over

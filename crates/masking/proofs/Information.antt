@@ -23,9 +23,6 @@ module _ (code : BlockCode) (laws : CodeLaws code) where
       let f = item_found code.information i cell e in
       subst (λ (k : ℕ). k < code.cells) (sym f.1) (laws.information_within i f.0)
 
-  pub first_there : None ≡ item code.information 0 → ⊥
-  first_there e = omega (arith, item_missing code.information 0 e, laws.information_two)
-
   -- the cell of each of a message's symbols is there
   pub rest_there : (i : ℕ) → i < length (rest code.information) → None ≡ item code.information (i + 1) → ⊥
   rest_there i h e = omega (arith, item_missing code.information (i + 1) e, length_rest code.information (some_information code laws))

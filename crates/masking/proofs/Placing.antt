@@ -1,12 +1,11 @@
 -- A message put into the information cells of a word, one symbol after the other. Assumes nothing.
-use Rattle.std.proofs.Common.{◌≡◌, ℕ, ◌+◌, ◌<◌, ◌≤◌, List, ◌∷◌, length, get_or, set, replicate, Some, sym, ap, ◌∙◌, arith, below_more}
-use lib.ListN.{length-replicate}
-use Rattle.std.proofs.lemmas.List.{ext_get_or, length-set, get_or-set_same, get_or-set_other, get_or-replicate}
+use Rattle.std.proofs.Common.{◌≡◌, ℕ, ◌+◌, ◌<◌, ◌≤◌, List, ◌∷◌, length, get_or, set, Some, sym, ap, ◌∙◌, arith, below_more}
+use Rattle.std.proofs.lemmas.List.{ext_get_or, length-set, get_or-set_same, get_or-set_other}
 use Rattle.code.specs.Words.{BlockCode, Word, Message, symbols_at, first, rest}
 use Rattle.code.specs.Laws.{CodeLaws}
 use Rattle.code.specs.Calls.{item}
-use Rattle.code.specs.Cells.{below_set, length_at, slice_index_at, at_split, length_rest, first_within}
-use Rattle.masking.proofs.Carriers.{some_symbol, some_information}
+use Rattle.code.specs.Cells.{below_set, length_at, slice_index_at, at_split, length_rest}
+use Rattle.masking.proofs.Carriers.{some_information}
 use Rattle.masking.proofs.Information.{get_or_first, get_or_rest, cell_within, rest_cell}
 
 -- the first i symbols of a message are in place
@@ -24,16 +23,6 @@ module _ (code : BlockCode) (laws : CodeLaws code) (message : List ℕ) (symbols
   others_apart : (j k : ℕ) → j < k → k < length (rest code.information) → get_or (rest code.information) j 0 ≡ get_or (rest code.information) k 0 → ⊥
   others_apart j k less h e =
       omega (arith, laws.information_ascends (j + 1) (k + 1) (omega arith) (omega (arith, length_rest code.information (some_information code laws))), get_or_rest code.information j, get_or_rest code.information k)
-
-  pub none_placed : (word : List ℕ) → word ≡ replicate code.cells 0 → Placed code message word 0
-  none_placed word blank =
-      let zeros : (i : ℕ) → i < code.cells → get_or word i 0 ≡ 0 = λ i h. ap (λ (w : List ℕ). get_or w i 0) blank ∙ get_or-replicate {A = ℕ} code.cells i 0 0 h in
-      let whole : length word ≡ code.cells = ap length blank ∙ length-replicate {A = ℕ} code.cells 0 in
-      record {
-        fit = record { whole = whole; symbols = λ i l. omega (arith, zeros i (omega arith), some_symbol code laws) };
-        plain = zeros (first code.information) (first_within code.cells code.information (some_information code laws) laws.information_within);
-        placed = λ k h. absurd (omega arith);
-      }
 
   pub one_more_placed : (word : List ℕ) (i cell : ℕ) → i < length message → Some cell ≡ item code.information (i + 1) → Placed code message word i → Placed code message (set word cell (get_or message i 0)) (i + 1)
   one_more_placed word i cell inside named before =

@@ -30,7 +30,7 @@ pub fn write<C: Code>(
     write_lowest(code, floors, allowance, message, word)
 }
 
-/// What `write` does, with the exact clause alone.
+/// What `write` does, with the one clause from which the others follow.
 fn write_lowest<C: Code>(
     code: &C,
     floors: &[u8],
@@ -87,7 +87,7 @@ fn unfit_floors(refusal: alphabet::Refusal, floors: &[u8]) -> Refusal
 {
     match refusal {
         alphabet::Refusal::NotASymbol { index } if index < floors.len() => Refusal::Floor {
-            floor: floors[index] as usize,
+            floor: usize::from(floors[index]),
         },
         _ => refusal.into(),
     }
@@ -127,6 +127,7 @@ impl<'a, A: Alphabet> Unmasked<'a, A> {
         requires { mask < (A.Alphabet.meaning self.now.alphabet.now).size }
         ensures { result ≡ unmet self.now.floors.now (shift (A.Alphabet.meaning self.now.alphabet.now) mask self.now.word.now) }
     {
+        // `filter` and `count` in place of the sum take up to twice as long
         self.word
             .iter()
             .zip(self.floors)
@@ -141,7 +142,7 @@ impl<'a, A: Alphabet> Unmasked<'a, A> {
         let mut best = 0;
         let mut fewest = self.count_unmet(0);
         for mask in 1..self.alphabet.size() {
-            // no mask leaves fewer than none
+            // no mask leaves fewer than none, where `min_by_key` would go on
             if fewest == 0 {
                 return (best, fewest);
             }
@@ -160,7 +161,7 @@ impl<'a, A: Alphabet> Unmasked<'a, A> {
         requires room { length page.old ≡ length self.now.floors.now }
         ensures { page.new ≡ raised self.now.floors.now (shift (A.Alphabet.meaning self.now.alphabet.now) mask self.now.word.now) }
     {
-        // through a `zip` of `page.iter_mut()` the check learns nothing of the page
+        // of a page written through a `zip` of its `iter_mut()` the check learns its length alone
         for (cell, level) in page.iter_mut().enumerate() {
             *level = self.floors[cell].max(self.alphabet.sum(self.word[cell], mask));
         }

@@ -1,13 +1,8 @@
-use Rattle.std.proofs.Common.{ℕ, ◌+◌, replicate, sym, ap, ◌∙◌, subst, arith}
+use Rattle.std.proofs.Common.{◌+◌, sym, subst, arith}
 use Rattle.masking.proofs.Information.{cell_within, rest_there}
-use Rattle.masking.proofs.Placing.{Placed, none_placed, one_more_placed, all_placed}
+use Rattle.masking.proofs.Placing.{Placed, one_more_placed, all_placed}
 use Rattle.masking.proofs.writing.place_message.Goals as goal
 use Rattle.masking.proofs.writing.place_message.Goals.{in-Some, in_default}
-
-pub loop-index-init : goal.loop-index-init
-loop-index-init g c =
-    none_placed (g.C.Code.meaning c.args.code.now) (g.met.C.Code.lawful c.args.code.now) c.args.message.now c.requires.symbols c.fill.new.self
-    (c.fill.ensures.after (λ y e. e) ∙ ap (λ (n : ℕ). replicate n 0) c.requires.whole)
 
 pub bounds-word-cell : goal.bounds-word-cell
 bounds-word-cell g c =
@@ -25,8 +20,6 @@ loop-index-preserved g c =
       | in_default w ↦ absurd (rest_there code laws i (omega (arith, c.loop-index-test.true, c.requires.symbols.whole)) w.in_default.ensures)
     ]
 
-pub returns : goal.returns
-returns g c = record {
-  filled = c.loop-index.invariant.fit;
-  information = all_placed (g.C.Code.meaning c.args.code.now) (g.met.C.Code.lawful c.args.code.now) c.args.message.now c.requires.symbols c.loop-index.word c.loop-index.index c.loop-index-test.false c.loop-index.invariant;
-}
+pub returns-clause-information : goal.returns-clause-information
+returns-clause-information g c =
+    all_placed (g.C.Code.meaning c.args.code.now) (g.met.C.Code.lawful c.args.code.now) c.args.message.now c.requires.symbols c.loop-index.word c.loop-index.index c.loop-index-test.false c.loop-index.invariant
