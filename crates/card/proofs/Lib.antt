@@ -1,8 +1,6 @@
-mod Moved
 mod Shown
 mod Promised
 mod Spots
 mod Notes
 mod Saves
 mod Questions
-mod Blanks

@@ -10,10 +10,10 @@ use Rattle.ledger.specs.Ledger as ledger
 use Rattle.ledger.specs.Ledger.{Made, page_of, with_message, BenchCall, Call, save, Answer, stored, Step, save_wrong_length, save_no_symbol, save_no_mask, saved, InService}
 use Rattle.card.specs.declared.page.Page.{Page}
 use Rattle.card.specs.declared.refusals.Refusal.TheVariants.{Masking}
-use Rattle.card.specs.History.{Like, Shows, Unaltered, refusal_answer}
-use Rattle.card.proofs.Shown.{floors_filled, entry_like, page_changed, page_kept, unaltered}
+use Rattle.card.specs.History.{Like, Shows, refusal_answer}
+use Rattle.card.specs.Lending.{IsPage}
+use Rattle.card.proofs.Shown.{floors_filled, in_made, entry_like, page_changed, page_kept}
 use Rattle.card.proofs.Promised.{service_allowed}
-use Rattle.card.proofs.Moved.{written_as}
 
 -- a message that the ledger's page refuses too
 refused_step : (made : Made) (l : List ledger.Page) (p : ℕ) (m : List ℕ) (room : ℕ) (e : Refusal) → p < made.pages → made.allowance ≤ made.code.radius → Word made.code (page_of made l p).floors → room ≡ made.code.cells
@@ -29,43 +29,36 @@ refused_step made l p m room (Coding (word.NotOffered choice)) low small floors 
 refused_step made l p m room (Coding (word.BareLength n)) low small floors whole u = absurd u
 refused_step made l p m room (Coding word.TooFar) low small floors whole u = absurd u
 
-module _ {C : Type 0} (meaning : C → BlockCode) (lawful : (c : C) → CodeLaws (meaning c)) (code : C) (allowance : ℕ) (pages : List Page) (p : ℕ) (m : List ℕ) (page page' : Page)
-    (there : p < length pages) (read : page ≡ get_or pages p page) (floors : vec_items page'.floors ≡ vec_items page.floors) where
-  module _ (made : Made) (bench : List (BenchCall × Answer)) (past : List (Call × Answer)) (l : List ledger.Page) (at : InService made bench past l) (shows : Shows meaning code allowance pages made l) where
-    low : p < made.pages
-    low = omega (arith, there, shows.count)
-
+module _ {C : Type 0} (meaning : C → BlockCode) (lawful : (c : C) → CodeLaws (meaning c)) (code : C) (allowance : ℕ) {pages : List Page} {p : ℕ} {page : Page} (found : IsPage pages p page) (page' : Page)
+    (floors : vec_items page'.floors ≡ vec_items page.floors) (m : List ℕ) where
+  module _ {made : Made} {l : List ledger.Page} (shows : Shows meaning code allowance pages made l) where
     like : Like page (page_of made l p)
-    like = entry_like meaning code allowance pages made l shows p page low read
+    like = entry_like shows found
 
     -- what was written, in the ledger's own code, allowance, floors and levels
     in_ledger : (r : Result (ℕ × ℕ) Refusal) → WrittenAs (meaning code) (vec_items page.floors) allowance m (vec_items page.levels) r (vec_items page'.levels)
         → WrittenAs made.code (page_of made l p).floors made.allowance m (page_of made l p).levels r (vec_items page'.levels)
-    in_ledger r h =
-        subst (λ (f : ℕ). WrittenAs made.code (page_of made l p).floors f m (page_of made l p).levels r (vec_items page'.levels)) shows.allowed
-        (subst (λ (k : BlockCode). WrittenAs k (page_of made l p).floors allowance m (page_of made l p).levels r (vec_items page'.levels)) shows.coded
-        (written_as (meaning code) _ _ allowance m _ _ r (vec_items page'.levels) (vec_items page'.levels) like.floors like.levels refl h))
+    in_ledger r h = rw (← like.floors, ← like.levels, ← shows.coded, ← shows.allowed) h
 
-    pub save_granted : (answer : ℕ × ℕ) → WrittenAs (meaning code) (vec_items page.floors) allowance m (vec_items page.levels) (Ok answer) (vec_items page'.levels) → page'.taken ≡ true
-        → (l' : List ledger.Page) × InService made bench ((save p m, stored answer.0 answer.1) ∷ past) l' × Shows meaning code allowance (set pages p page') made l'
-    save_granted answer h taken =
-        let w = in_ledger (Ok answer) h in
-        let entry' = with_message (page_of made l p) m w.writes.carrier (vec_items page'.levels) in (
-          set l p entry',
-          InService.next bench past l _ _ _ at (saved l p m answer.0 answer.1 (vec_items page'.levels) low w.symbols w.writes),
-          page_changed meaning code allowance pages made l shows p page' entry' low (record { floors = floors ∙ like.floors; levels = refl; taken = taken }),
-        )
+  pub save_granted : (answer : ℕ × ℕ) → WrittenAs (meaning code) (vec_items page.floors) allowance m (vec_items page.levels) (Ok answer) (vec_items page'.levels) → page'.taken ≡ true
+      → (made : Made) (bench : List (BenchCall × Answer)) (past : List (Call × Answer)) (l : List ledger.Page) → InService made bench past l → Shows meaning code allowance pages made l
+      → (l' : List ledger.Page) × InService made bench ((save p m, stored answer.0 answer.1) ∷ past) l' × Shows meaning code allowance (set pages p page') made l'
+  save_granted answer h taken made bench past l at shows =
+      let w = in_ledger shows (Ok answer) h in
+      let entry' = with_message (page_of made l p) m w.writes.carrier (vec_items page'.levels) in (
+        set l p entry',
+        InService.next bench past l _ _ _ at (saved l p m answer.0 answer.1 (vec_items page'.levels) (in_made shows found) w.symbols w.writes),
+        page_changed shows found page' entry' (record { floors = floors ∙ (like shows).floors; levels = refl; taken = taken }),
+      )
 
-    pub save_refused : (e : Refusal) → WrittenAs (meaning code) (vec_items page.floors) allowance m (vec_items page.levels) (Err e) (vec_items page'.levels) → page'.taken ≡ page.taken
-        → (l' : List ledger.Page) × InService made bench ((save p m, refusal_answer (Masking e)) ∷ past) l' × Shows meaning code allowance (set pages p page') made l'
-    save_refused e h taken =
-        let u = in_ledger (Err e) h in
-        let allowed = service_allowed meaning lawful code allowance pages made l shows bench past at p in
-        let floors_fit = subst (Word made.code) like.floors (floors_filled made.code page (page_of made l p) like allowed) in (
-          l,
-          InService.next bench past l _ _ _ at (refused_step made l p m (length (page_of made l p).levels) e low shows.within floors_fit allowed.fit.whole u.0),
-          page_kept meaning code allowance pages made l shows p page' low (record { floors = floors ∙ like.floors; levels = h.1 ∙ like.levels; taken = taken ∙ like.taken }),
-        )
-
-  pub save_unaltered : (e : Refusal) → WrittenAs (meaning code) (vec_items page.floors) allowance m (vec_items page.levels) (Err e) (vec_items page'.levels) → Unaltered pages (set pages p page')
-  save_unaltered e h = unaltered pages p page page' read there floors h.1
+  pub save_refused : (e : Refusal) → WrittenAs (meaning code) (vec_items page.floors) allowance m (vec_items page.levels) (Err e) (vec_items page'.levels) → page'.taken ≡ page.taken
+      → (made : Made) (bench : List (BenchCall × Answer)) (past : List (Call × Answer)) (l : List ledger.Page) → InService made bench past l → Shows meaning code allowance pages made l
+      → (l' : List ledger.Page) × InService made bench ((save p m, refusal_answer (Masking e)) ∷ past) l' × Shows meaning code allowance (set pages p page') made l'
+  save_refused e h taken made bench past l at shows =
+      let u = in_ledger shows (Err e) h in
+      let allowed = service_allowed lawful shows at p in
+      let floors_fit = subst (Word made.code) (like shows).floors (floors_filled (like shows) allowed) in (
+        l,
+        InService.next bench past l _ _ _ at (refused_step made l p m (length (page_of made l p).levels) e (in_made shows found) shows.within floors_fit allowed.fit.whole u.0),
+        page_kept shows found page' (record { floors = floors ∙ (like shows).floors; levels = h.1 ∙ (like shows).levels; taken = taken ∙ (like shows).taken }),
+      )

@@ -1,5 +1,5 @@
 -- How a card stands to the ledger of its calls: whatever history led to the card, one call more leads to the card after it. Assumes nothing.
-use Rattle.std.specs.Prelude.{◌≡◌, ℕ, ◌<◌, ◌≤◌, Bool, true, false, List, [], ◌∷◌, length, is_some, Ok, Err, vec_items, Result, slice_index_or}
+use Rattle.std.specs.Prelude.{◌≡◌, ℕ, ◌<◌, ◌≤◌, Bool, true, false, List, [], ◌∷◌, length, map, is_some, Ok, Err, vec_items, Result, slice_index_or}
 use Rattle.code.specs.Words.{BlockCode}
 use Rattle.ledger.specs.Ledger as ledger
 use Rattle.ledger.specs.Ledger.{Made, page_of, BenchCall, Call, Answer, done, stored, found, compared, refused, AtBench, InService}
@@ -70,12 +70,10 @@ compare_answer (Err e) = refusal_answer e
 
 -- the floors and the levels of all pages
 abbrev pub floors_of : List Page → List (List ℕ)
-floors_of [] = []
-floors_of (page ∷ pages) = vec_items page.floors ∷ floors_of pages
+floors_of pages = map (λ page. vec_items page.floors) pages
 
 abbrev pub levels_of : List Page → List (List ℕ)
-levels_of [] = []
-levels_of (page ∷ pages) = vec_items page.levels ∷ levels_of pages
+levels_of pages = map (λ page. vec_items page.levels) pages
 
 -- every cell and every floor is as it was
 pub record Unaltered (before after : List Page) : Type 0 where

@@ -3,3 +3,4 @@ pub mod Cells
 pub mod Words
 pub mod History
 pub mod Making
+pub mod Lending

@@ -11,6 +11,7 @@ pub struct Benched;
 pub struct Serving;
 
 /// A table of pages, a code and an allowance, at a stage.
+// No ghost field ties the pages to the code: each clause on a history holds of any card, and asks for none.
 #[derive(Drop)]
 pub struct Card<C, S> {
     code: C,

@@ -4,11 +4,14 @@ ghost use Rattle.std.specs.Prelude.{◌≡◌, vec_len};
 /// The floors and the levels of a page, and whether it has taken a message.
 #[derive(Drop)]
 pub struct Page {
+    // Two lists and not one of pairs: writing and reading take floors and levels as slices of bytes.
     floors: Vec<u8>,
     levels: Vec<u8>,
+    // No option of the levels: they are there before the first message too, for floors and notes.
     taken: bool,
     ghost even: { vec_len levels ≡ vec_len floors },
 }
 
+pub(crate) mod lent;
 mod notes;
 mod words;

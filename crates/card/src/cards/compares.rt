@@ -1,5 +1,4 @@
 // Comparisons in service.
-ghost use Rattle.std.specs.Prelude.{◌≡◌, Decides};
 ghost use Rattle.ledger.specs.Ledger as ledger;
 ghost use Rattle.card.specs.History.{Continues, compare_answer};
 
@@ -13,20 +12,14 @@ impl<C: Code> Service<C> {
     pub fn compare(&self, one: usize, other: usize) -> Result<bool, Refusal>
         ensures { Continues C.Code.meaning self.now (ledger.compare one other) (compare_answer result) self.now }
     {
+        // No call on a card allocates: the two messages lie in arrays of the longest length.
         let symbols = message_length(&self.code);
         let mut first = [0u8; MOST_CELLS];
-        let message = &mut first[0..symbols];
+        let message = &mut first[..symbols];
         self.fetch(one, message)?;
         let mut second = [0u8; MOST_CELLS];
-        let other_message = &mut second[0..symbols];
+        let other_message = &mut second[..symbols];
         self.fetch(other, other_message)?;
-        Ok(same(message, other_message))
+        Ok(*message == *other_message)
     }
-}
-
-/// Whether two lists of symbols are the same.
-fn same(one: &[u8], other: &[u8]) -> bool
-    ensures { Decides result (one.now ≡ other.now) }
-{
-    one == other
 }

@@ -3,6 +3,7 @@ ghost use Rattle.ledger.specs.Ledger.{floor};
 ghost use Rattle.card.specs.History.{BenchContinues, note_answer, RefusedAltersNothing};
 
 use super::Bench;
+use crate::page::lent::lend;
 use crate::refusals::Refusal;
 use alphabet::Alphabet;
 use code::Code;
@@ -13,10 +14,7 @@ impl<C: Code> Bench<C> {
         ensures continues { BenchContinues C.Code.meaning self.old (floor page cell level) (note_answer result) self.new }
         ensures refused { RefusedAltersNothing result self.old.pages.items self.new.pages.items }
     {
-        if page >= self.pages.len() {
-            return Err(Refusal::NoPage { page });
-        }
         let size = self.code.alphabet().size();
-        self.pages[page].floor(cell, level, size)
+        lend(&mut self.pages, page)?.floor(cell, level, size)
     }
 }

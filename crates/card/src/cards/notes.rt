@@ -3,6 +3,7 @@ ghost use Rattle.ledger.specs.Ledger.{wear, drift};
 ghost use Rattle.card.specs.History.{Continues, note_answer, RefusedAltersNothing};
 
 use super::Service;
+use crate::page::lent::lend;
 use crate::refusals::Refusal;
 use alphabet::Alphabet;
 use code::Code;
@@ -13,11 +14,8 @@ impl<C: Code> Service<C> {
         ensures continues { Continues C.Code.meaning self.old (wear page cell floor) (note_answer result) self.new }
         ensures refused { RefusedAltersNothing result self.old.pages.items self.new.pages.items }
     {
-        if page >= self.pages.len() {
-            return Err(Refusal::NoPage { page });
-        }
         let size = self.code.alphabet().size();
-        self.pages[page].wear(cell, floor, size)
+        lend(&mut self.pages, page)?.wear(cell, floor, size)
     }
 
     /// Sets a cell's level, at its floor or above.
@@ -25,10 +23,7 @@ impl<C: Code> Service<C> {
         ensures continues { Continues C.Code.meaning self.old (drift page cell level) (note_answer result) self.new }
         ensures refused { RefusedAltersNothing result self.old.pages.items self.new.pages.items }
     {
-        if page >= self.pages.len() {
-            return Err(Refusal::NoPage { page });
-        }
         let size = self.code.alphabet().size();
-        self.pages[page].drift(cell, level, size)
+        lend(&mut self.pages, page)?.drift(cell, level, size)
     }
 }

@@ -5,6 +5,7 @@ ghost use Rattle.ledger.specs.Ledger as ledger;
 ghost use Rattle.card.specs.History.{Continues, Fetches, read_answer, Untouched};
 
 use super::Service;
+use crate::page::lent::find;
 use crate::refusals::Refusal;
 use code::Code;
 use masking::message_length;
@@ -15,13 +16,10 @@ impl<C: Code> Service<C> {
         ensures continues { Continues C.Code.meaning self.now (ledger.read page (length message.old)) (read_answer result message.new) self.now }
         ensures untouched { Untouched result message.old message.new }
     {
-        if page >= self.pages.len() {
-            return Err(Refusal::NoPage { page });
-        }
+        find(&self.pages, page)?;
         let room = message.len();
         if room != message_length(&self.code) {
-            let refusal = masking::Refusal::MessageLength { length: room };
-            return Err(Refusal::Masking { refusal });
+            return Err(masking::Refusal::MessageLength { length: room }.into());
         }
         self.fetch(page, message)
     }
@@ -32,9 +30,6 @@ impl<C: Code> Service<C> {
         ensures fetches { Fetches C.Code.meaning self.now page result message.new }
         ensures untouched { Untouched result message.old message.new }
     {
-        if page >= self.pages.len() {
-            return Err(Refusal::NoPage { page });
-        }
-        self.pages[page].fetch(&self.code, page, message)
+        find(&self.pages, page)?.fetch(&self.code, page, message)
     }
 }

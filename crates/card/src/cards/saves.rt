@@ -3,6 +3,7 @@ ghost use Rattle.ledger.specs.Ledger as ledger;
 ghost use Rattle.card.specs.History.{Continues, save_answer, RefusedAltersNothing};
 
 use super::Service;
+use crate::page::lent::lend;
 use crate::refusals::Refusal;
 use code::Code;
 
@@ -12,12 +13,6 @@ impl<C: Code> Service<C> {
         ensures continues { Continues C.Code.meaning self.old (ledger.save page message.now) (save_answer result) self.new }
         ensures refused { RefusedAltersNothing result self.old.pages.items self.new.pages.items }
     {
-        if page >= self.pages.len() {
-            return Err(Refusal::NoPage { page });
-        }
-        match self.pages[page].save(&self.code, self.allowance, message) {
-            Ok(answer) => Ok(answer),
-            Err(refusal) => Err(Refusal::Masking { refusal }),
-        }
+        Ok(lend(&mut self.pages, page)?.save(&self.code, self.allowance, message)?)
     }
 }

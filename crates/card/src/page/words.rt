@@ -40,11 +40,9 @@ impl Page {
             allowance,
             message,
             self.levels.as_mut_slice(),
-        );
-        if answer.is_ok() {
-            self.taken = true;
-        }
-        answer
+        )?;
+        self.taken = true;
+        Ok(answer)
     }
 
     /// Reads the page's message into the buffer, unless the page is blank.
@@ -59,9 +57,6 @@ impl Page {
         if !self.taken {
             return Err(Refusal::Blank { page });
         }
-        match read(code, self.levels.as_slice(), message) {
-            Ok(corrected) => Ok(corrected),
-            Err(refusal) => Err(Refusal::Masking { refusal }),
-        }
+        Ok(read(code, self.levels.as_slice(), message)?)
     }
 }

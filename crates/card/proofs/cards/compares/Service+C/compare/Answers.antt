@@ -1,3 +1,5 @@
+use Rattle.std.proofs.lemmas.Bool.Decides.{Decides-eqb}
+use Rattle.std.proofs.lemmas.Slice.Eq.{slice_eq-Decides}
 use Rattle.std.proofs.lemmas.Result.{err_from_is_err_and}
 use Rattle.ledger.specs.Ledger.{InService, not_compared, other_not_compared}
 use Rattle.card.proofs.Questions.{compared_step}
@@ -19,6 +21,6 @@ pub returns : goal.returns
 returns g c = λ made bench past l at shows. (
   l,
   InService.next bench past l _ _ _ at
-      (compared_step made l c.args.one c.args.other _ _ _ _ c.same.result (c.in_ok-fetch.ensures.fetches made bench past l at shows) (c.in_ok-fetch-2.ensures.fetches made bench past l at shows) c.same.ensures),
+      (compared_step made l c.args.one c.args.other _ _ _ _ c.eq.result (c.in_ok-fetch.ensures.fetches made bench past l at shows) (c.in_ok-fetch-2.ensures.fetches made bench past l at shows) (slice_eq-Decides Decides-eqb _ _ _ c.eq.ensures)),
   shows,
 )

@@ -1,19 +1,15 @@
-use Rattle.std.proofs.Common.{length, refl, ap, ◌∙◌, arith}
-use Rattle.code.specs.Words.{rest}
+use Rattle.std.proofs.Common.{arith}
+use Rattle.std.proofs.lemmas.Result.{err_from_is_err_and}
 use Rattle.ledger.specs.Ledger as ledger
 use Rattle.card.proofs.Questions.{fetched, fetch_untouched}
 use Rattle.card.proofs.cards.reads.Service+C.fetch.Goals as goal
 
-pub returns-then-page-len : goal.returns-then-page-len
-returns-then-page-len g c = record {
-  fetches = λ made bench past l at shows. ledger.Unreadable.no_page (omega (arith, c.if-page-len.true, c.len.ensures, c.args.self.now.pages.ok.0, shows.count));
-  untouched = refl;
-}
+pub returns-in_err-find-clause-fetches : goal.returns-in_err-find-clause-fetches
+returns-in_err-find-clause-fetches g c =
+    let p = err_from_is_err_and c.from_residual.result c.from_residual.ensures.1 in
+    let none = c.in_err-find.ensures in
+    rw (p.1, p.2, none.told) (λ made bench past l at shows. ledger.Unreadable.no_page (omega (arith, none.past, shows.count)))
 
-pub returns : goal.returns
-returns g c = record {
-  fetches = λ made bench past l at shows.
-      fetched g.C.Code.meaning g.met.C.Code.lawful c.args.self.now.code c.args.self.now.allowance _ c.args.page c.index.result.now
-      (omega (arith, c.len.ensures, c.args.self.now.pages.ok.0)) c.index.ensures made bench past l at shows c.args.message.now c.fetch.result c.fetch.new.message (c.requires ∙ ap (λ k. length (rest k.information)) shows.coded) c.fetch.ensures;
-  untouched = fetch_untouched (g.C.Code.meaning c.args.self.now.code) c.index.result.now.taken c.args.page _ c.args.message.now c.fetch.result c.fetch.new.message c.fetch.ensures;
-}
+pub returns-clause-fetches : goal.returns-clause-fetches
+returns-clause-fetches g c = λ made bench past l at shows.
+    fetched g.C.Code.meaning g.met.C.Code.lawful _ _ c.in_ok-find.ensures made bench past l at shows c.args.message.now c.fetch.result c.fetch.new.message c.requires c.fetch.ensures

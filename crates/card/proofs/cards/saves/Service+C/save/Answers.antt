@@ -1,33 +1,30 @@
-use Rattle.std.proofs.Common.{refl, arith}
+use Rattle.std.proofs.Common.{arith}
+use Rattle.std.proofs.lemmas.Result.{err_from_is_err_and}
 use Rattle.ledger.specs.Ledger.{InService, save_no_page}
-use Rattle.card.proofs.Saves.{save_granted, save_refused, save_unaltered}
+use Rattle.card.proofs.Saves.{save_granted, save_refused}
+use Rattle.card.proofs.Shown.{unaltered}
 use Rattle.card.proofs.cards.saves.Service+C.save.Goals as goal
 
-pub returns-then-page-len : goal.returns-then-page-len
-returns-then-page-len g c = record {
-  continues = λ made bench past l at shows.
-      (l, InService.next bench past l _ _ _ at (save_no_page l c.args.page c.args.message.now (omega (arith, c.if-page-len.true, c.len.ensures, c.args.self.now.pages.ok.0, shows.count))), shows);
-  refused = record { floors = refl; levels = refl };
-}
+pub returns-in_err-lend-clause-continues : goal.returns-in_err-lend-clause-continues
+returns-in_err-lend-clause-continues g c =
+    let p = err_from_is_err_and c.from_residual.result c.from_residual.ensures.1 in
+    let none = c.in_err-lend.ensures.found in
+    rw (p.1, p.2, none.told) (λ made bench past l at shows.
+    (l, InService.next bench past l _ _ _ at (save_no_page l c.args.page c.args.message.now (omega (arith, none.past, shows.count))), shows))
 
-pub returns-in-Ok : goal.returns-in-Ok
-returns-in-Ok g c = record {
-  continues =
-      let h = c.in-Ok.ensures in
-      λ made bench past l at shows.
-      save_granted g.C.Code.meaning g.met.C.Code.lawful c.args.self.now.code c.args.self.now.allowance _ c.args.page c.args.message.now c.index_mut.result.now c.save.new.self
-      (omega (arith, c.len.ensures, c.args.self.now.pages.ok.0)) c.index_mut.ensures.value h.floors made bench past l at shows c.in-Ok.answer h.levels h.taken;
-  refused = tt;
-}
+pub returns-in_err-save-clause-continues : goal.returns-in_err-save-clause-continues
+returns-in_err-save-clause-continues g c =
+    let p = err_from_is_err_and c.from_residual-in_err-save.result c.from_residual-in_err-save.ensures.1 in
+    let h = c.in_err-save.ensures in
+    rw (p.1, p.2) (save_refused g.C.Code.meaning g.met.C.Code.lawful _ _ c.in_ok-lend.ensures.found c.save.new.self h.floors c.args.message.now _ h.levels h.taken)
 
-pub returns-in-Err : goal.returns-in-Err
-returns-in-Err g c =
-    let h = c.in-Err.ensures in
-    record {
-      continues = λ made bench past l at shows.
-          save_refused g.C.Code.meaning g.met.C.Code.lawful c.args.self.now.code c.args.self.now.allowance _ c.args.page c.args.message.now c.index_mut.result.now c.save.new.self
-          (omega (arith, c.len.ensures, c.args.self.now.pages.ok.0)) c.index_mut.ensures.value h.floors made bench past l at shows c.in-Err.refusal h.levels h.taken;
-      refused =
-          save_unaltered g.C.Code.meaning g.met.C.Code.lawful c.args.self.now.code c.args.self.now.allowance _ c.args.page c.args.message.now c.index_mut.result.now c.save.new.self
-          (omega (arith, c.len.ensures, c.args.self.now.pages.ok.0)) c.index_mut.ensures.value h.floors c.in-Err.refusal h.levels;
-    }
+pub returns-in_err-save-clause-refused : goal.returns-in_err-save-clause-refused
+returns-in_err-save-clause-refused g c =
+    let p = err_from_is_err_and c.from_residual-in_err-save.result c.from_residual-in_err-save.ensures.1 in
+    let h = c.in_err-save.ensures in
+    rw p.1 (unaltered c.save.new.self c.in_ok-lend.ensures.found h.floors h.levels.1)
+
+pub returns-clause-continues : goal.returns-clause-continues
+returns-clause-continues g c =
+    let h = c.in_ok-save.ensures in
+    save_granted g.C.Code.meaning g.met.C.Code.lawful _ _ c.in_ok-lend.ensures.found c.save.new.self h.floors c.args.message.now _ h.levels h.taken
