@@ -1,5 +1,5 @@
 -- Bench floors and notes lead from one history to the next, and a refused one alters nothing. Assumes nothing.
-use Rattle.std.proofs.Common.{◌≡◌, ℕ, ◌<◌, max, List, ◌∷◌, get_or, set, is_some, Ok, Err, vec_items, vec_len, Result, sym, refl, ap, ◌∙◌, ap₂, arith}
+use Rattle.std.proofs.Common.{◌≡◌, ℕ, max, List, ◌∷◌, get_or, set, is_some, Ok, Err, vec_items, vec_len, Result, sym, refl, ap, ◌∙◌, ap₂, arith}
 use Rattle.std.proofs.lemmas.List.{set-get_or}
 use Rattle.code.specs.Words.{BlockCode}
 use Rattle.code.specs.Laws.{CodeLaws}
@@ -7,7 +7,7 @@ use Rattle.ledger.specs.Ledger as ledger
 use Rattle.ledger.specs.Ledger.{Made, page_of, floor_at, level_at, with_cell, with_floor, BenchCall, floor, Call, wear, drift, Answer, floored, not_floored, worn, not_worn, drifted, no_drift, below_its_floor, AtBench, InService}
 use Rattle.card.specs.declared.page.Page.{Page}
 use Rattle.card.specs.declared.refusals.Refusal.{Refusal}
-use Rattle.card.specs.declared.refusals.Refusal.TheVariants.{Masking, PageCount, NoPage, NoCell, NoLevel, Blank, BelowFloor}
+use Rattle.card.specs.declared.refusals.Refusal.TheVariants.{BelowFloor}
 use Rattle.card.specs.Cells.{Spot, NoSpot, Floored, Worn, NoDrift, Drifted}
 use Rattle.card.specs.History.{Like, Shows, refusal_answer, note_answer, RefusedAltersNothing}
 use Rattle.card.specs.Lending.{IsPage}
@@ -75,12 +75,7 @@ module _ {C : Type 0} (meaning : C → BlockCode) (lawful : (c : C) → CodeLaws
 
     not_drifted : (e : Refusal) → NoDrift (vec_len page.floors) size c v (vec_items page.floors) e → ledger.Step made l (drift p c v) (refusal_answer e) l
     not_drifted (BelowFloor k) h = rw h.0 (below_its_floor l p c v (spot h.1) (omega (arith, h.2, floor_is)))
-    not_drifted (NoCell k) h = no_drift l p c v (refusal_answer (NoCell k)) (no_spot (NoCell k) h)
-    not_drifted (NoLevel k) h = no_drift l p c v (refusal_answer (NoLevel k)) (no_spot (NoLevel k) h)
-    not_drifted (Masking e) h = absurd h
-    not_drifted (PageCount n) h = absurd h
-    not_drifted (NoPage k) h = absurd h
-    not_drifted (Blank k) h = absurd h
+    not_drifted e h = no_drift l p c v (refusal_answer e) (no_spot e h)
 
   pub wear_next : (r : Result (Unit {0}) Refusal) → Worn (vec_len page.floors) size c v (vec_items page.floors) (vec_items page.levels) r (vec_items page'.floors) (vec_items page'.levels)
       → (made : Made) (bench : List (BenchCall × Answer)) (past : List (Call × Answer)) (l : List ledger.Page) → InService made bench past l → Shows meaning code allowance pages made l

@@ -1,5 +1,5 @@
 -- What a card fetches of a page is what its ledger reads; so reads and comparisons lead from one history to the next. Assumes nothing.
-use Rattle.std.proofs.Common.{◌≡◌, ℕ, ◌<◌, Bool, true, false, List, length, get_or, is_some, Some, None, Ok, Err, vec_items, Decides, Option, Result, sym, refl, ◌∙◌, subst, arith}
+use Rattle.std.proofs.Common.{◌≡◌, ℕ, ◌<◌, Bool, true, false, List, length, is_some, Some, None, Ok, Err, vec_items, Decides, Option, Result, sym, refl, ◌∙◌, subst, arith}
 use Rattle.alphabet.specs.declared.refusals.Refusal.TheVariants as word
 use Rattle.code.specs.Words.{BlockCode, Word, rest}
 use Rattle.code.specs.Laws.{CodeLaws}
@@ -12,7 +12,7 @@ use Rattle.card.specs.declared.page.Page.{Page}
 use Rattle.card.specs.declared.refusals.Refusal.{Refusal}
 use Rattle.card.specs.declared.refusals.Refusal.TheVariants as refusal
 use Rattle.card.specs.Words.{FetchedAs}
-use Rattle.card.specs.History.{Like, Shows, FetchedInLedger, Untouched, refusal_answer, read_answer, compare_answer}
+use Rattle.card.specs.History.{Like, Shows, FetchedInLedger, refusal_answer, read_answer, compare_answer}
 use Rattle.card.specs.Lending.{IsPage}
 use Rattle.card.proofs.Shown.{in_made, entry_like}
 use Rattle.card.proofs.Promised.{service_allowed}
@@ -62,26 +62,12 @@ module _ {C : Type 0} (meaning : C → BlockCode) (lawful : (c : C) → CodeLaws
       let fit : Word made.code (page_of made l p).levels = (service_allowed lawful shows at p).fit in
       far_only made.code (page_of made l p).levels (length before) e (λ x. ledger.Unreadable made l p (refusal_answer (refusal.Masking x))) fit (rw (← shows.coded) long) (in_ledger before (Err e) after h.1).0
       (λ u. ledger.Unreadable.too_far some.0 low some.1 u.2)
-  fetched before (Err (refusal.PageCount n)) after long h = absurd h
-  fetched before (Err (refusal.NoPage q)) after long h = absurd h
-  fetched before (Err (refusal.NoCell c)) after long h = absurd h
-  fetched before (Err (refusal.NoLevel v)) after long h = absurd h
-  fetched before (Err (refusal.BelowFloor c)) after long h = absurd h
+  fetched before (Err _) after long h = absurd h
 
 -- two pages that were both read are alike if their messages are
 pub compared_step : (made : Made) (l : List ledger.Page) (p r c d : ℕ) (m k : List ℕ) (b : Bool) → ledger.Readable made l p c m → ledger.Readable made l r d k → Decides b (m ≡ k) → Step made l (compare p r) (compare_answer (Ok b)) l
 compared_step made l p r c d m k true one other decides = alike l p r c d m one (subst (ledger.Readable made l r d) (sym (decides.0 refl)) other)
 compared_step made l p r c d m k false one other decides = unlike l p r c d m k one other (λ same. let turned = decides.1 same in cc)
-
-pub fetch_untouched : (code : BlockCode) (taken : Bool) (page : ℕ) (levels before : List ℕ) (r : Result ℕ Refusal) (after : List ℕ) → FetchedAs code taken page levels before r after → Untouched r before after
-fetch_untouched code taken page levels before (Ok corrected) after h = tt
-fetch_untouched code taken page levels before (Err (refusal.Blank p)) after h = h.2
-fetch_untouched code taken page levels before (Err (refusal.Masking e)) after h = h.1.1
-fetch_untouched code taken page levels before (Err (refusal.PageCount n)) after h = absurd h
-fetch_untouched code taken page levels before (Err (refusal.NoPage p)) after h = absurd h
-fetch_untouched code taken page levels before (Err (refusal.NoCell c)) after h = absurd h
-fetch_untouched code taken page levels before (Err (refusal.NoLevel v)) after h = absurd h
-fetch_untouched code taken page levels before (Err (refusal.BelowFloor c)) after h = absurd h
 
 -- a read of a page that is there, into a buffer of the right length
 pub read_step : (made : Made) (l : List ledger.Page) (p room : ℕ) (r : Result ℕ Refusal) (message : List ℕ) → p < made.pages → room ≡ length (rest made.code.information) → FetchedInLedger made l p r message → Step made l (read p room) (read_answer r message) l

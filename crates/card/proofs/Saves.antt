@@ -1,5 +1,5 @@
 -- A save leads from one history to the next, and a refused one alters nothing. Assumes nothing.
-use Rattle.std.proofs.Common.{◌≡◌, ℕ, ◌<◌, ◌≤◌, true, List, ◌∷◌, length, get_or, set, Ok, Err, vec_items, Result, refl, ◌∙◌, subst, ⊎_elim, arith}
+use Rattle.std.proofs.Common.{◌≡◌, ℕ, ◌<◌, ◌≤◌, true, List, ◌∷◌, length, set, Ok, Err, vec_items, Result, refl, ◌∙◌, subst, ⊎_elim, arith}
 use Rattle.alphabet.specs.declared.refusals.Refusal.TheVariants as word
 use Rattle.code.specs.Words.{BlockCode, Word}
 use Rattle.code.specs.Laws.{CodeLaws}

@@ -3,7 +3,7 @@ use Rattle.std.proofs.Common.{◌≡◌, ℕ, ◌<◌, arith}
 use Rattle.ledger.specs.Ledger as ledger
 use Rattle.ledger.specs.Ledger.{Made, no_cell, no_level}
 use Rattle.card.specs.declared.refusals.Refusal.{Refusal}
-use Rattle.card.specs.declared.refusals.Refusal.TheVariants.{Masking, PageCount, NoPage, NoCell, NoLevel, Blank, BelowFloor}
+use Rattle.card.specs.declared.refusals.Refusal.TheVariants.{NoCell, NoLevel}
 use Rattle.card.specs.Cells.{Spot, NoSpot}
 use Rattle.card.specs.History.{refusal_answer}
 
@@ -14,8 +14,4 @@ module _ (made : Made) (page cells size cell level : ℕ) (there : page < made.p
   pub same_no_spot : (e : Refusal) → NoSpot cells size cell level e → ledger.NoSpot made page cell level (refusal_answer e)
   same_no_spot (NoCell c) h = rw h.0 (no_cell there (omega (arith, h.1)))
   same_no_spot (NoLevel v) h = rw h.0 (no_level there (omega (arith, h.1)) (omega (arith, h.2)))
-  same_no_spot (Masking e) h = absurd h
-  same_no_spot (PageCount n) h = absurd h
-  same_no_spot (NoPage p) h = absurd h
-  same_no_spot (Blank p) h = absurd h
-  same_no_spot (BelowFloor c) h = absurd h
+  same_no_spot _ h = absurd h

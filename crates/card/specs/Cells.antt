@@ -1,17 +1,13 @@
 -- What a page's own calls on one of its cells answer and leave. Assumes nothing.
 use Rattle.std.specs.Prelude.{◌≡◌, ℕ, ◌<◌, ◌≤◌, max, List, Ok, Err, Result, slice_index, slice_set}
 use Rattle.card.specs.declared.refusals.Refusal.{Refusal}
-use Rattle.card.specs.declared.refusals.Refusal.TheVariants.{Masking, PageCount, NoPage, NoCell, NoLevel, Blank, BelowFloor}
+use Rattle.card.specs.declared.refusals.Refusal.TheVariants.{NoCell, NoLevel, BelowFloor}
 
 -- why a cell and a level name no spot of a page of so many cells
 abbrev pub NoSpot : (cells size cell level : ℕ) → Refusal → Type 0
 NoSpot cells size cell level (NoCell c) = (c ≡ cell) × (cells ≤ cell)
 NoSpot cells size cell level (NoLevel v) = (v ≡ level) × (cell < cells) × (size ≤ level)
-NoSpot cells size cell level (Masking refusal) = ⊥
-NoSpot cells size cell level (PageCount n) = ⊥
-NoSpot cells size cell level (NoPage p) = ⊥
-NoSpot cells size cell level (Blank p) = ⊥
-NoSpot cells size cell level (BelowFloor c) = ⊥
+NoSpot cells size cell level _ = ⊥
 
 -- a cell and a level that name a spot
 pub record Spot (cells size cell level : ℕ) : Type 0 where
@@ -38,12 +34,7 @@ Worn cells size cell level floors levels (Err refusal) floors' levels' = NoSpot 
 -- why a level does not drift: there is no such spot, or it would be below the floor
 abbrev pub NoDrift : (cells size cell level : ℕ) (floors : List ℕ) → Refusal → Type 0
 NoDrift cells size cell level floors (BelowFloor c) = (c ≡ cell) × Spot cells size cell level × (level < slice_index floors cell)
-NoDrift cells size cell level floors (NoCell c) = NoSpot cells size cell level (NoCell c)
-NoDrift cells size cell level floors (NoLevel v) = NoSpot cells size cell level (NoLevel v)
-NoDrift cells size cell level floors (Masking refusal) = ⊥
-NoDrift cells size cell level floors (PageCount n) = ⊥
-NoDrift cells size cell level floors (NoPage p) = ⊥
-NoDrift cells size cell level floors (Blank p) = ⊥
+NoDrift cells size cell level floors e = NoSpot cells size cell level e
 
 -- a drift note sets a cell's level, and leaves its floor
 abbrev pub Drifted : (cells size cell level : ℕ) (floors levels : List ℕ) → Result (Unit {0}) Refusal → (floors' levels' : List ℕ) → Type 0

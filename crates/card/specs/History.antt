@@ -1,5 +1,5 @@
 -- How a card stands to the ledger of its calls: whatever history led to the card, one call more leads to the card after it. Assumes nothing.
-use Rattle.std.specs.Prelude.{◌≡◌, ℕ, ◌<◌, ◌≤◌, Bool, true, false, List, [], ◌∷◌, length, map, is_some, Ok, Err, vec_items, Result, slice_index_or}
+use Rattle.std.specs.Prelude.{◌≡◌, ℕ, ◌<◌, ◌≤◌, Bool, true, false, List, ◌∷◌, length, map, is_some, Ok, Err, vec_items, Result, slice_index_or}
 use Rattle.code.specs.Words.{BlockCode}
 use Rattle.ledger.specs.Ledger as ledger
 use Rattle.ledger.specs.Ledger.{Made, page_of, BenchCall, Call, Answer, done, stored, found, compared, refused, AtBench, InService}

@@ -8,7 +8,7 @@ use Rattle.card.specs.declared.cards.Card.{Card}
 use Rattle.card.specs.declared.faults.Fault.{Fault}
 use Rattle.card.specs.declared.faults.Fault.TheVariants.{Asked, Memory}
 use Rattle.card.specs.declared.refusals.Refusal.{Refusal}
-use Rattle.card.specs.declared.refusals.Refusal.TheVariants.{Masking, PageCount, NoPage, NoCell, NoLevel, Blank, BelowFloor}
+use Rattle.card.specs.declared.refusals.Refusal.TheVariants.{Masking, PageCount}
 use Rattle.card.specs.History.{made_from, CardShows}
 
 -- a card has 1 to 16 pages
@@ -25,16 +25,7 @@ pub record New {C : Type 0} (meaning : C → BlockCode) (code : C) (allowance pa
 abbrev pub RefusedCard : BlockCode → (allowance pages : ℕ) → Refusal → Type 0
 RefusedCard code allowance pages (PageCount n) = (n ≡ pages) × (Pages pages → ⊥)
 RefusedCard code allowance pages (Masking (masking.Allowance f)) = (f ≡ allowance) × Pages pages × (code.radius < allowance)
-RefusedCard code allowance pages (Masking (masking.Coding e)) = ⊥
-RefusedCard code allowance pages (Masking (masking.Floor v)) = ⊥
-RefusedCard code allowance pages (Masking (masking.MessageLength n)) = ⊥
-RefusedCard code allowance pages (Masking (masking.MessageSymbol i)) = ⊥
-RefusedCard code allowance pages (Masking (masking.NoMask n)) = ⊥
-RefusedCard code allowance pages (NoPage p) = ⊥
-RefusedCard code allowance pages (NoCell c) = ⊥
-RefusedCard code allowance pages (NoLevel v) = ⊥
-RefusedCard code allowance pages (Blank p) = ⊥
-RefusedCard code allowance pages (BelowFloor c) = ⊥
+RefusedCard code allowance pages _ = ⊥
 
 -- want of memory is told only of a card that is not refused
 abbrev pub NotMade : BlockCode → (allowance pages : ℕ) → Fault → Type 0

@@ -17,8 +17,4 @@ abbrev pub FetchedAs : BlockCode → (taken : Bool) (page : ℕ) (levels before 
 FetchedAs code taken page levels before (Ok corrected) after = (taken ≡ true) × ReadAs code levels before (Ok corrected) after
 FetchedAs code taken page levels before (Err (refusal.Blank p)) after = (taken ≡ false) × (p ≡ page) × (after ≡ before)
 FetchedAs code taken page levels before (Err (refusal.Masking e)) after = (taken ≡ true) × ReadAs code levels before (Err e) after
-FetchedAs code taken page levels before (Err (refusal.PageCount n)) after = ⊥
-FetchedAs code taken page levels before (Err (refusal.NoPage p)) after = ⊥
-FetchedAs code taken page levels before (Err (refusal.NoCell c)) after = ⊥
-FetchedAs code taken page levels before (Err (refusal.NoLevel v)) after = ⊥
-FetchedAs code taken page levels before (Err (refusal.BelowFloor c)) after = ⊥
+FetchedAs code taken page levels before (Err _) after = ⊥

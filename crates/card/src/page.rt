@@ -12,6 +12,6 @@ pub struct Page {
     ghost even: { vec_len levels ≡ vec_len floors },
 }
 
-pub(crate) mod lent;
 mod notes;
+pub(crate) mod table;
 mod words;

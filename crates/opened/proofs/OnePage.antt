@@ -20,9 +20,6 @@ total_of_one zero c v = omega arith
 total_of_one (suc n) zero v = omega (arith, total_zeros n)
 total_of_one (suc n) (suc c) v = omega (arith, total_of_one n c v)
 
-answers_differ : (n a b : ℕ) → Answer.refused n a b ≡ done → ⊥
-answers_differ n a b e = let z : ◌≡◌ {A = ℕ} 0 1 = cc in omega arith
-
 first_pages : (made : Made) (l : List Page) → AtBench made [] l → l ≡ blank_pages made
 first_pages made _ new = refl
 
@@ -35,10 +32,10 @@ module _ (code : BlockCode) (laws : CodeLaws code) (c v : ℕ) (cell : c < code.
 
   floor_granted : (r : Result (Unit {0}) Refusal) (l : List Page) → AtBench (one_page code) ((floor 0 c v, note_answer r) ∷ []) l → is_ok r ≡ true
   floor_granted (Ok granted) l at = refl
-  floor_granted (Err e) _ (AtBench.next _ l _ _ l' at step) = absurd (answers_differ _ _ _ ((promised.at_bench [] l at).bench_floor_granted l' 0 c v _ spot step))
+  floor_granted (Err e) _ (AtBench.next _ l _ _ l' at step) = let granted = (promised.at_bench [] l at).bench_floor_granted l' 0 c v _ spot step in cc
 
   few_lost : (r : Result (Unit {0}) Refusal) (l : List Page) → AtBench (one_page code) ((floor 0 c v, note_answer r) ∷ []) l → total (page_of (one_page code) l 0).floors ≤ v
-  few_lost (Err e) _ (AtBench.next _ l _ _ l' at step) = absurd (answers_differ _ _ _ ((promised.at_bench [] l at).bench_floor_granted l' 0 c v _ spot step))
+  few_lost (Err e) _ (AtBench.next _ l _ _ l' at step) = let granted = (promised.at_bench [] l at).bench_floor_granted l' 0 c v _ spot step in cc
   few_lost (Ok granted) _ (AtBench.next _ l _ _ l' at step) =
       let sets = ((promised.at_bench [] l at).bench_floor_sets l' 0 c v step).0 in
       let blank = first_pages (one_page code) l at in

@@ -3,7 +3,7 @@ ghost use Rattle.ledger.specs.Ledger.{floor};
 ghost use Rattle.card.specs.History.{BenchContinues, note_answer, RefusedAltersNothing};
 
 use super::Bench;
-use crate::page::lent::lend;
+use crate::page::table::lend;
 use crate::refusals::Refusal;
 use alphabet::Alphabet;
 use code::Code;

@@ -3,7 +3,7 @@ ghost use Rattle.ledger.specs.Ledger.{wear, drift};
 ghost use Rattle.card.specs.History.{Continues, note_answer, RefusedAltersNothing};
 
 use super::Service;
-use crate::page::lent::lend;
+use crate::page::table::lend;
 use crate::refusals::Refusal;
 use alphabet::Alphabet;
 use code::Code;

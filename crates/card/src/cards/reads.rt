@@ -5,7 +5,7 @@ ghost use Rattle.ledger.specs.Ledger as ledger;
 ghost use Rattle.card.specs.History.{Continues, Fetches, read_answer, Untouched};
 
 use super::Service;
-use crate::page::lent::find;
+use crate::page::table::find;
 use crate::refusals::Refusal;
 use code::Code;
 use masking::message_length;

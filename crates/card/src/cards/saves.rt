@@ -3,7 +3,7 @@ ghost use Rattle.ledger.specs.Ledger as ledger;
 ghost use Rattle.card.specs.History.{Continues, save_answer, RefusedAltersNothing};
 
 use super::Service;
-use crate::page::lent::lend;
+use crate::page::table::lend;
 use crate::refusals::Refusal;
 use code::Code;
 

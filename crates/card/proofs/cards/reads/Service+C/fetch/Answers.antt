@@ -1,7 +1,7 @@
 use Rattle.std.proofs.Common.{arith}
 use Rattle.std.proofs.lemmas.Result.{err_from_is_err_and}
 use Rattle.ledger.specs.Ledger as ledger
-use Rattle.card.proofs.Questions.{fetched, fetch_untouched}
+use Rattle.card.proofs.Questions.{fetched}
 use Rattle.card.proofs.cards.reads.Service+C.fetch.Goals as goal
 
 pub returns-in_err-find-clause-fetches : goal.returns-in_err-find-clause-fetches
