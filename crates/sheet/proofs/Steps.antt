@@ -1,5 +1,5 @@
--- Field after field: a refusal past a well-formed field, the fields of a save's symbols, and a line as its verb and fields say.
-use Rattle.std.proofs.Common.{◌≡◌, ℕ, zero, suc, ◌+◌, ◌-◌, ◌*◌, ◌<◌, ◌≤◌, List, [], ◌∷◌, ◌++◌, length, take, drop, Ok, Err, Result, refl, sym, ap, ◌∙◌, subst, ⊎_elim, add-one, arith, length-drop, drop-drop}
+-- Field after field: the numbers so far, a refusal past them, and a line as its verb and fields say.
+use Rattle.std.proofs.Common.{◌≡◌, ℕ, zero, suc, ◌+◌, ◌-◌, ◌*◌, ◌<◌, ◌≤◌, List, [], ◌∷◌, ◌++◌, length, take, drop, Ok, Err, Result, refl, sym, ap, ◌∙◌, subst, ⊎_elim, one-add, arith, length-drop, drop-drop}
 use Rattle.std.proofs.lemmas.List.{length_push}
 use Rattle.std.proofs.lemmas.Bool.{cases_lt}
 use Rattle.sheet.specs.declared.refusals.Refusal.{Refusal}
@@ -12,15 +12,15 @@ use Rattle.sheet.specs.Parsing.{numbers, field_at, BeginWith, AllWellFormed, Len
 use Rattle.sheet.specs.Steps.{Next, IllWithin, NumbersRead, LineRead}
 use Rattle.sheet.proofs.Symbols.{begin_push}
 
--- the fields after the first are those of the columns after it
-shift : (cs more : List ℕ) (k : ℕ) → more ≡ drop 4 cs → field_at more k ≡ field_at cs (k + 1)
-shift cs more k e =
-    let at : 4 + 4 * k ≡ 4 * (k + 1) = omega arith in
-    ap (λ l. take 4 (drop (4 * k) l)) e ∙ ap (take 4) (drop-drop (4 * k) 4 cs) ∙ ap (λ n. take 4 (drop n cs)) at
+-- the fields after so many are those of the columns after them
+field_there : (cs rest : List ℕ) (n k : ℕ) → rest ≡ drop (4 * n) cs → field_at rest k ≡ field_at cs (n + k)
+field_there cs rest n k e =
+    let at : 4 * n + 4 * k ≡ 4 * (n + k) = omega arith in
+    ap (λ l. field_at l k) e ∙ ap (take 4) (drop-drop (4 * k) (4 * n) cs) ∙ ap (λ m. take 4 (drop m cs)) at
 
 pub both : (cs more : List ℕ) (index v : ℕ) → Shows (take 4 cs) v → more ≡ drop 4 cs → ((k : ℕ) → k < index → WellFormed (field_at more k)) → (k : ℕ) → k < index + 1 → WellFormed (field_at cs k)
 both cs more index v s e h zero l = (v, s)
-both cs more index v s e h (suc k) l = subst (λ n. WellFormed (field_at cs n)) (add-one k) (subst WellFormed (shift cs more k e) (h k (omega arith)))
+both cs more index v s e h (suc k) l = subst (λ n. WellFormed (field_at cs n)) (one-add k) (subst WellFormed (field_there cs more 1 k e) (h k (omega arith)))
 
 -- what is left of the symbols, one symbol on
 pub left_more : (cs rest more : List ℕ) (i : ℕ) → rest ≡ drop (4 * i) cs → more ≡ drop 4 rest → more ≡ drop (4 * (i + 1)) cs
@@ -76,11 +76,6 @@ ill bytes cs from vs rest column e h next inside = record {
 pub all_shown : (cs : List ℕ) (from : ℕ) (vs rest : List ℕ) (column : ℕ) → Sofar cs from vs rest column → length rest ≡ 0 → AllWellFormed cs
 all_shown cs from vs rest column h none k inside =
     shown_fields cs vs h.begins k (omega (arith, ap length h.left, length-drop (4 * length vs) cs))
-
-field_there : (cs rest : List ℕ) (n k : ℕ) → rest ≡ drop (4 * n) cs → field_at rest k ≡ field_at cs (n + k)
-field_there cs rest n k e =
-    let at : 4 * n + 4 * k ≡ 4 * (n + k) = omega arith in
-    ap (λ l. field_at l k) e ∙ ap (take 4) (drop-drop (4 * k) (4 * n) cs) ∙ ap (λ m. take 4 (drop m cs)) at
 
 -- a refusal past the numbers that were read
 pub past : (cs : List ℕ) (from : ℕ) (vs rest : List ℕ) (column : ℕ) (e : Refusal) → Sofar cs from vs rest column → IllWithin (length rest) rest column e → IllWithin (length cs) cs from e

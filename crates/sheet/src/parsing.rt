@@ -71,8 +71,11 @@ pub fn parse<'a>(line: &'a [u8]) -> Result<Line<'a>, Refusal>
     if !verb.counts(columns.len()) {
         return Err(Refusal::FieldCount { bytes: line.len() });
     }
-    let column = FIRST_FIELD;
-    read_line(verb, Fields { columns, column })
+    let fields = Fields {
+        columns,
+        column: FIRST_FIELD,
+    };
+    read_line(verb, fields)
 }
 
 /// The line of a verb and its fields.
