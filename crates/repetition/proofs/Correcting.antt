@@ -2,19 +2,16 @@
 use Rattle.std.proofs.Common.{◌≡◌, ℕ, ◌+◌, ◌<◌, ◌≤◌, List, length, get_or, sym, ap, ◌∙◌, subst, take, drop, get_or-take, get_or-drop, inl, inr, arith, lit<}
 use Rattle.std.proofs.lemmas.Bool.Decides.{nat_tests}
 use Rattle.alphabet.specs.Arithmetic.{Arithmetic}
-use Rattle.code.specs.Words.{Filled, Word, symbols_at, differences}
+use Rattle.code.specs.Words.{Filled, Word, differences}
 use Rattle.code.specs.Calls.{Corrects, AllFar}
-use Rattle.code.specs.Bare.{from}
-use Rattle.code.specs.BareLaws.{all_cells}
 use Rattle.repetition.specs.declared.triples.Majority.{Majority}
 use Rattle.repetition.specs.Repetition.{repeated, repetition, against, Elected}
-use Rattle.repetition.specs.RepetitionLaws.{repeats_from, repeated_holds}
+use Rattle.repetition.specs.RepetitionLaws.{these_cells, repeats_from, repeated_holds}
 
 -- a word differs from two symbols repeated where its cells are against them
 by_triples : (w : List ℕ) (x y : ℕ) → length w ≡ 6 → differences w (repeated x y) ≡ against (take 3 w) x + against (drop 3 w) y
 by_triples w x y whole =
-    let six : symbols_at w (from 0 6) ≡ w = subst (λ (n : ℕ). symbols_at w (from 0 n) ≡ w) whole (all_cells w) in
-    subst (λ (v : List ℕ). differences v (repeated x y) ≡ against (take 3 v) x + against (drop 3 v) y) six (grind (arith, nat_tests))
+    subst (λ (v : List ℕ). differences v (repeated x y) ≡ against (take 3 v) x + against (drop 3 v) y) (these_cells 6 w whole) (grind (arith, nat_tests))
 
 elected_below : (q : ℕ) (cells : List ℕ) (majority : Majority) → ((i : ℕ) → i < 3 → get_or cells i 0 < q) → Elected cells majority → majority.symbol < q
 elected_below q cells majority below e =

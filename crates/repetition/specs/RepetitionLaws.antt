@@ -1,11 +1,12 @@
 -- The Repetition code over any alphabet is a lawful code. Assumes nothing.
-use Rattle.std.specs.Prelude.{◌≡◌, ℕ, zero, suc, ◌<◌, ◌≤◌, true, ◌&&◌, List, [], ◌∷◌, map, length, ◌==◌, ◌≢◌, slice_index, refl}
+use Rattle.std.specs.Prelude.{◌≡◌, ℕ, zero, suc, ◌<◌, ◌≤◌, true, ◌&&◌, List, [], ◌∷◌, map, length, ◌==◌, ◌≢◌, slice_index}
 use Rattle.std.proofs.Common.{ap, ap₂, sym, ◌∙◌, subst, ⊎_elim, arith, lit<, lit≤}
 use Rattle.std.proofs.lemmas.Bool.{and_parts, and_from, eqb-true, eq-eqb, lt-ltb}
 use Rattle.alphabet.specs.Arithmetic.{Arithmetic, Lawful}
-use Rattle.code.specs.Words.{Filled, differences}
+use Rattle.code.specs.Words.{Filled, symbols_at, differences}
 use Rattle.code.specs.Laws.{CodeLaws, Ascending}
-use Rattle.code.specs.Bare.{all_below}
+use Rattle.code.specs.Bare.{all_below, from}
+use Rattle.code.specs.BareLaws.{all_cells}
 use Rattle.code.specs.Cells.{below_each}
 use Rattle.code.specs.Differences.{differ_way, differences_self, same_from_none}
 use Rattle.repetition.specs.Repetition.{repeated, repetition}
@@ -29,12 +30,9 @@ information_within zero h = lit< tt
 information_within (suc zero) h = lit< tt
 information_within (suc (suc i)) h = absurd (omega arith)
 
--- two numbers are a list of two
-two_of : (xs : List ℕ) → length xs ≡ 2 → slice_index xs 0 ∷ slice_index xs 1 ∷ [] ≡ xs
-two_of [] h = absurd (omega arith)
-two_of (x ∷ []) h = absurd (omega arith)
-two_of (x ∷ y ∷ []) h = refl
-two_of (x ∷ y ∷ z ∷ xs) h = absurd (omega arith)
+-- a list of so many numbers is what stands in its first so many cells
+pub these_cells : (n : ℕ) (w : List ℕ) → length w ≡ n → symbols_at w (from 0 n) ≡ w
+these_cells n w whole = subst (λ (k : ℕ). symbols_at w (from 0 k) ≡ w) whole (all_cells w)
 
 module _ (m : Arithmetic) where
   -- a code word is two symbols repeated
@@ -66,7 +64,7 @@ module _ (m : Arithmetic) where
     information_ascends = information_ascends;
     information_within = information_within;
     words = λ w t. (repeats_from w t).fit;
-    filled = λ xs whole symbols. (repeated (slice_index xs 0) (slice_index xs 1), repeated_holds _ _ (symbols 0 (omega arith)) (symbols 1 (omega arith)), two_of xs whole);
+    filled = λ xs whole symbols. (repeated (slice_index xs 0) (slice_index xs 1), repeated_holds _ _ (symbols 0 (omega arith)) (symbols 1 (omega arith)), these_cells 2 xs whole);
     filled_once = λ v w tv tw same.
         (repeats_from v tv).repeats
         ∙ ap₂ repeated (ap (λ (xs : List ℕ). slice_index xs 0) same) (ap (λ (xs : List ℕ). slice_index xs 1) same)
