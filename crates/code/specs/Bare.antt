@@ -1,5 +1,6 @@
 -- The Bare code: every word of n symbols is a code word, and every cell an information cell. Assumes nothing.
-use Rattle.std.specs.Prelude.{ℕ, zero, suc, Bool, true, ◌&&◌, List, [], ◌∷◌, length, ◌==◌, nat_lt}
+use Rattle.std.specs.Prelude.{ℕ, Bool, true, ◌&&◌, List, [], ◌∷◌, length, ◌==◌, nat_lt}
+use Rattle.std.specs.List.{range_with_len}
 use Rattle.alphabet.specs.Arithmetic.{Arithmetic}
 use Rattle.code.specs.Words.{BlockCode}
 
@@ -9,8 +10,7 @@ all_below q (x ∷ xs) = nat_lt x q && all_below q xs
 
 -- count numbers from a on
 abbrev pub from : (a count : ℕ) → List ℕ
-from a zero = []
-from a (suc count) = a ∷ from (suc a) count
+from = range_with_len
 
 abbrev pub bare : Arithmetic → ℕ → BlockCode
 bare m n = record {

@@ -4,23 +4,25 @@ use Rattle.std.proofs.Common.{ap, sym, ◌∙◌, subst, inl, inr, ⊎_elim, ari
 use Rattle.std.specs.Bool.{then_some}
 use Rattle.std.proofs.lemmas.List.{ext_get_or, length-map, get_or-map}
 use Rattle.std.proofs.lemmas.Bool.{and_parts, and_from, eqb-true, eq-eqb, cases_eq, cases_lt, lt-ltb, le-ltb}
+use Rattle.std.proofs.lemmas.List.FromFn.{length-range_with_len, get_or-range_with_len}
+use Rattle.std.proofs.lemmas.Option.{slice_get-get_or, slice_get_past}
 use Rattle.alphabet.specs.Arithmetic.{Arithmetic, Lawful}
 use Rattle.alphabet.specs.declared.refusals.Refusal.{Refusal}
 use Rattle.code.specs.Words.{Filled, Word, symbols_at, differences}
 use Rattle.code.specs.Laws.{CodeLaws}
 use Rattle.code.specs.Calls.{item, Unfit, Checked, Completed, Corrects}
 use Rattle.code.specs.Bare.{all_below, from, bare}
-use Rattle.code.specs.Cells.{below_each, each_below, length_from, get_or_from, item_there, item_past, length_at, slice_index_at}
+use Rattle.code.specs.Cells.{below_each, each_below, length_at, slice_index_at}
 use Rattle.code.specs.Differences.{differences_self, same_from_none}
 
 -- the cells of a whole word are the word
 pub all_cells : (w : List ℕ) → symbols_at w (from 0 (length w)) ≡ w
 all_cells w =
-    let long : length (symbols_at w (from 0 (length w))) ≡ length w = length_at w (from 0 (length w)) ∙ length_from 0 (length w) in
+    let long : length (symbols_at w (from 0 (length w))) ≡ length w = length_at w (from 0 (length w)) ∙ length-range_with_len 0 (length w) in
     ext_get_or 0 (symbols_at w (from 0 (length w))) w long (λ k h.
     let inside : k < length w = omega arith in
-    slice_index_at w (from 0 (length w)) k (omega (arith, length_from 0 (length w)))
-    ∙ ap (λ (i : ℕ). slice_index w i) (get_or_from 0 (length w) k inside ∙ omega arith))
+    slice_index_at w (from 0 (length w)) k (omega (arith, length-range_with_len 0 (length w)))
+    ∙ ap (λ (i : ℕ). slice_index w i) (get_or-range_with_len 0 (length w) k 0 inside ∙ omega arith))
 
 -- the information cell of an index is the cell of that index
 pub item_run : (n i : ℕ) → then_some (nat_lt i n) i ≡ item (from 0 n) i
@@ -28,8 +30,8 @@ item_run n i =
     elim (cases_lt i n) [
       | inl low ↦
           ap (λ b. then_some b i) (lt-ltb i n low)
-          ∙ sym (item_there (from 0 n) i (omega (arith, length_from 0 n)) ∙ ap (λ k. Some k) (get_or_from 0 n i low ∙ omega arith))
-      | inr high ↦ ap (λ b. then_some b i) (le-ltb i n high) ∙ sym (item_past (from 0 n) i (omega (arith, length_from 0 n)))
+          ∙ sym (slice_get-get_or (from 0 n) i 0 (omega (arith, length-range_with_len 0 n)) ∙ ap (λ k. Some k) (get_or-range_with_len 0 n i 0 low ∙ omega arith))
+      | inr high ↦ ap (λ b. then_some b i) (le-ltb i n high) ∙ sym (slice_get_past (from 0 n) i (omega (arith, length-range_with_len 0 n)))
     ]
 
 module _ (m : Arithmetic) (laws : Lawful m) (n : ℕ) where
@@ -49,12 +51,12 @@ module _ (m : Arithmetic) (laws : Lawful m) (n : ℕ) where
     arithmetic = laws;
     cells_two = long;
     cells_most = short;
-    information_two = omega (arith, length_from 0 n);
-    information_ascends = λ i j less h. omega (arith, length_from 0 n, get_or_from 0 n i (omega (arith, length_from 0 n)), get_or_from 0 n j (omega (arith, length_from 0 n)));
-    information_within = λ i h. omega (arith, length_from 0 n, get_or_from 0 n i (omega (arith, length_from 0 n)));
+    information_two = omega (arith, length-range_with_len 0 n);
+    information_ascends = λ i j less h. omega (arith, length-range_with_len 0 n, get_or-range_with_len 0 n i 0 (omega (arith, length-range_with_len 0 n)), get_or-range_with_len 0 n j 0 (omega (arith, length-range_with_len 0 n)));
+    information_within = λ i h. omega (arith, length-range_with_len 0 n, get_or-range_with_len 0 n i 0 (omega (arith, length-range_with_len 0 n)));
     words = word_from;
     filled = λ xs whole symbols.
-        let e : length xs ≡ n = whole ∙ length_from 0 n in
+        let e : length xs ≡ n = whole ∙ length-range_with_len 0 n in
         (xs, word_holds xs (record { whole = e; symbols = symbols }), whole_cells xs e);
     filled_once = λ v w hv hw same. sym (whole_cells v (word_from v hv).whole) ∙ same ∙ whole_cells w (word_from w hw).whole;
     shifted = λ w z h low.

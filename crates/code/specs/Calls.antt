@@ -1,14 +1,12 @@
 -- What completing and correcting answer, and what they leave in the word. Assumes nothing.
-use Rattle.std.specs.Prelude.{◌≡◌, ℕ, zero, suc, ◌<◌, ◌≤◌, true, List, [], ◌∷◌, length, Some, None, Ok, Err, Option, Result, ◌≢◌, slice_index}
+use Rattle.std.specs.Prelude.{◌≡◌, ℕ, ◌<◌, ◌≤◌, true, List, length, Ok, Err, Option, Result, ◌≢◌, slice_get, slice_index}
 use Rattle.alphabet.specs.declared.refusals.Refusal.{Refusal}
 use Rattle.alphabet.specs.declared.refusals.Refusal.TheVariants.{NotOffered, BareLength, TooFar, WordLength, NotASymbol}
 use Rattle.code.specs.Words.{BlockCode, Filled, Word, symbols_at, differences}
 
 -- what stands at a place of a list, if it is that long
 abbrev pub item : List ℕ → ℕ → Option ℕ
-item [] i = None
-item (x ∷ xs) zero = Some x
-item (x ∷ xs) (suc i) = item xs i
+item = slice_get
 
 -- the first of the numbers that is no symbol
 pub record FirstBad (size : ℕ) (xs : List ℕ) (index : ℕ) : Type 0 where

@@ -1,11 +1,12 @@
 -- Tests of all cells, runs of cells, and what stands in the cells that a list names. Assumes nothing.
-use Rattle.std.specs.Prelude.{◌≡◌, ℕ, zero, suc, ◌+◌, ◌<◌, ◌≤◌, true, List, [], ◌∷◌, map, length, Some, None, nat_lt, slice_index, slice_index_or, slice_set, refl}
+use Rattle.std.specs.Prelude.{◌≡◌, ℕ, zero, suc, ◌<◌, ◌≤◌, true, List, [], ◌∷◌, map, length, Some, None, nat_lt, slice_index, slice_index_or, slice_set, refl}
 use Rattle.std.proofs.Common.{ap, ap₂, sym, ◌∙◌, subst, inl, inr, ⊎_elim, arith}
 use Rattle.std.proofs.lemmas.List.{length-set, get_or-set_same, get_or-set_other, get_or-map, get_or_past}
 use Rattle.std.proofs.lemmas.Bool.{and_parts, and_from, ltb-true, lt-ltb, cases_eq, cases_lt}
+use Rattle.std.proofs.lemmas.Option.{get_or_from_slice_get, slice_get-get_or, slice_get_within}
 use Rattle.code.specs.Words.{symbols_at, first, rest}
 use Rattle.code.specs.Calls.{item}
-use Rattle.code.specs.Bare.{all_below, from}
+use Rattle.code.specs.Bare.{all_below}
 
 -- each number is below q
 abbrev pub Below : ℕ → List ℕ → Type 0
@@ -32,34 +33,11 @@ below_set q w k x low small i l =
       | inr other ↦ subst (λ (y : ℕ). y < q) (sym (get_or-set_other w k i x 0 other)) (low i inside)
     ]
 
-pub length_from : (a n : ℕ) → length (from a n) ≡ n
-length_from a zero = refl
-length_from a (suc n) = ap suc (length_from (suc a) n)
-
-pub get_or_from : (a n i : ℕ) → i < n → slice_index (from a n) i ≡ a + i
-get_or_from a zero i h = absurd (omega arith)
-get_or_from a (suc n) zero h = omega arith
-get_or_from a (suc n) (suc i) h = get_or_from (suc a) n i (omega arith) ∙ omega arith
-
-pub item_there : (xs : List ℕ) (i : ℕ) → i < length xs → item xs i ≡ Some (slice_index xs i)
-item_there [] i h = absurd (omega arith)
-item_there (x ∷ xs) zero h = refl
-item_there (x ∷ xs) (suc i) h = item_there xs i (omega arith)
-
-pub item_past : (xs : List ℕ) (i : ℕ) → length xs ≤ i → item xs i ≡ None
-item_past [] i h = refl
-item_past (x ∷ xs) zero h = absurd (omega arith)
-item_past (x ∷ xs) (suc i) h = item_past xs i (omega arith)
-
 pub item_found : (xs : List ℕ) (i x : ℕ) → Some x ≡ item xs i → (i < length xs) × (x ≡ slice_index xs i)
-item_found [] i x e = absurd (let z : ◌≡◌ {A = ℕ} 0 1 = cc in omega arith)
-item_found (y ∷ ys) zero x e = (omega arith, cc)
-item_found (y ∷ ys) (suc i) x e = let r = item_found ys i x e in (omega (arith, r.0), r.1)
+item_found xs i x e = (slice_get_within xs i x (sym e), sym (get_or_from_slice_get xs i x 0 (sym e)))
 
 pub item_missing : (xs : List ℕ) (i : ℕ) → None ≡ item xs i → length xs ≤ i
-item_missing [] i e = omega arith
-item_missing (y ∷ ys) zero e = absurd (let z : ◌≡◌ {A = ℕ} 0 1 = cc in omega arith)
-item_missing (y ∷ ys) (suc i) e = omega (arith, item_missing ys i e)
+item_missing xs i e = ⊎_elim (λ l. absurd (let some : Some (slice_index xs i) ≡ None = sym (slice_get-get_or xs i 0 l) ∙ sym e in cc)) (λ past. past) (cases_lt i (length xs))
 
 pub length_at : (w is : List ℕ) → length (symbols_at w is) ≡ length is
 length_at w [] = refl

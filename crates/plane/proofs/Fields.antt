@@ -4,7 +4,7 @@ use Rattle.alphabet.specs.Arithmetic.{Arithmetic, Lawful}
 use Rattle.alphabet.specs.Field.{FieldArithmetic, FieldLaws}
 use Rattle.code.specs.Words.{Filled, Word}
 use Rattle.code.specs.Calls.{item, Corrects, AllFar}
-use Rattle.code.specs.Cells.{item_past}
+use Rattle.std.proofs.lemmas.Option.{slice_get_past}
 use Rattle.plane.specs.Plane.{plane_over, plane}
 use Rattle.plane.specs.Lines.{SumsOf, Inverts}
 use Rattle.plane.specs.declared.three_sums.Sums.{Sums}
@@ -26,7 +26,7 @@ module _ (f : FieldArithmetic) (l : FieldLaws f) where
   information_count n is = omega (arith, length_information f.arithmetic.size l.lawful.two)
 
   pub item_absent : (d i : ℕ) → d ≡ length (plane f).information → d ≤ i → None ≡ item (plane f).information i
-  item_absent d i is past = sym (item_past (plane f).information i (omega arith))
+  item_absent d i is past = sym (slice_get_past (plane f).information i (omega arith))
 
   pub later_fits : (d i : ℕ) → d ≡ length (plane f).information → i < d → Fits w64 (i + 3)
   later_fits d i is h =

@@ -3,11 +3,13 @@ use Rattle.std.specs.Prelude.{◌≡◌, ℕ, ◌+◌, ◌-◌, ◌*◌, ◌<◌
 use Rattle.std.proofs.Common.{sym, ap, ◌∙◌, inl, inr, mul-le-mul_right, arith}
 use Rattle.std.proofs.lemmas.List.{length-append, get_or_append_left, get_or-append_right, ext_get_or}
 use Rattle.std.proofs.lemmas.Bool.{cases_lt}
+use Rattle.std.proofs.lemmas.List.FromFn.{length-range_with_len, get_or-range_with_len}
+use Rattle.std.proofs.lemmas.Option.{slice_get-get_or}
 use Rattle.code.specs.Words.{symbols_at}
 use Rattle.code.specs.Laws.{Ascending}
 use Rattle.code.specs.Calls.{item}
 use Rattle.code.specs.Bare.{from}
-use Rattle.code.specs.Cells.{length_from, get_or_from, length_at, slice_index_at, item_there}
+use Rattle.code.specs.Cells.{length_at, slice_index_at}
 use Rattle.plane.specs.Plane.{information_cells}
 
 module _ (q : ℕ) (two : 2 ≤ q) where
@@ -16,22 +18,22 @@ module _ (q : ℕ) (two : 2 ≤ q) where
 
   pub length_information : length (information_cells q) + 3 ≡ q * q
   length_information =
-      omega (arith, two_rows, length-append (from 2 (q - 2)) (from (q + 1) (q * q - (q + 1))), length_from 2 (q - 2), length_from (q + 1) (q * q - (q + 1)))
+      omega (arith, two_rows, length-append (from 2 (q - 2)) (from (q + 1) (q * q - (q + 1))), length-range_with_len 2 (q - 2), length-range_with_len (q + 1) (q * q - (q + 1)))
 
   pub information_low : (k : ℕ) → k + 2 < q → slice_index (information_cells q) k ≡ k + 2
   information_low k h =
-      get_or_append_left (from 2 (q - 2)) (from (q + 1) (q * q - (q + 1))) 0 k (omega (arith, length_from 2 (q - 2))) ∙ get_or_from 2 (q - 2) k (omega arith) ∙ omega arith
+      get_or_append_left (from 2 (q - 2)) (from (q + 1) (q * q - (q + 1))) 0 k (omega (arith, length-range_with_len 2 (q - 2))) ∙ get_or-range_with_len 2 (q - 2) k 0 (omega arith) ∙ omega arith
 
   pub information_high : (k : ℕ) → q ≤ k + 2 → k + 3 < q * q → slice_index (information_cells q) k ≡ k + 3
   information_high k h l =
-      get_or-append_right (from 2 (q - 2)) (from (q + 1) (q * q - (q + 1))) (q - 2) k 0 (length_from 2 (q - 2)) (omega arith)
-      ∙ get_or_from (q + 1) (q * q - (q + 1)) (k - (q - 2)) (omega arith) ∙ omega arith
+      get_or-append_right (from 2 (q - 2)) (from (q + 1) (q * q - (q + 1))) (q - 2) k 0 (length-range_with_len 2 (q - 2)) (omega arith)
+      ∙ get_or-range_with_len (q + 1) (q * q - (q + 1)) (k - (q - 2)) 0 (omega arith) ∙ omega arith
 
   pub item_low : (k : ℕ) → k + 2 < q → item (information_cells q) k ≡ Some (k + 2)
-  item_low k h = item_there (information_cells q) k (omega (arith, two_rows, length_information)) ∙ ap (λ i. Some i) (information_low k h)
+  item_low k h = slice_get-get_or (information_cells q) k 0 (omega (arith, two_rows, length_information)) ∙ ap (λ i. Some i) (information_low k h)
 
   pub item_high : (k : ℕ) → q ≤ k + 2 → k + 3 < q * q → item (information_cells q) k ≡ Some (k + 3)
-  item_high k h l = item_there (information_cells q) k (omega (arith, length_information)) ∙ ap (λ i. Some i) (information_high k h l)
+  item_high k h l = slice_get-get_or (information_cells q) k 0 (omega (arith, length_information)) ∙ ap (λ i. Some i) (information_high k h l)
 
   pub information_ascends : Ascending (information_cells q)
   information_ascends i j less h =

@@ -46,5 +46,6 @@ pub(crate) fn mend<A: Alphabet>(alphabet: &A, word: &mut [u8], sums: Sums, inver
     let column = alphabet.product(sums.columns, inverse);
     let cell = usize::from(alphabet.size()) * usize::from(row) + usize::from(column);
     let down = alphabet.negative(sums.levels);
-    word[cell] = alphabet.sum(word[cell], down);
+    let wrong = &mut word[cell];
+    *wrong = alphabet.sum(*wrong, down);
 }

@@ -7,11 +7,6 @@ bounds-word-cell g c =
     cell_inside (g.A.Alphabet.meaning c.args.alphabet.now) (g.met.A.Alphabet.lawful c.args.alphabet.now) _ _ _
     c.from.result c.from-2.result c.from-3.result _ c.requires.fit.whole (c.from.ensures ∙ c.size.ensures) (c.from-2.ensures ∙ c.product-row.ensures) (c.from-3.ensures ∙ c.product-column.ensures)
 
-pub bounds-word-cell-2 : goal.bounds-word-cell-2
-bounds-word-cell-2 g c =
-    cell_inside (g.A.Alphabet.meaning c.args.alphabet.now) (g.met.A.Alphabet.lawful c.args.alphabet.now) _ _ _
-    c.from.result c.from-2.result c.from-3.result _ c.requires.fit.whole (c.from.ensures ∙ c.size.ensures) (c.from-2.ensures ∙ c.product-row.ensures) (c.from-3.ensures ∙ c.product-column.ensures)
-
 pub returns : goal.returns
 returns g c =
     mended_corrects (g.A.Alphabet.meaning c.args.alphabet.now) (g.met.A.Alphabet.lawful c.args.alphabet.now) c.args.word.now c.requires.fit c.args.sums c.requires.summed

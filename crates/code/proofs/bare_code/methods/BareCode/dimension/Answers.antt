@@ -1,6 +1,6 @@
 use Rattle.std.proofs.Common.{sym}
-use Rattle.code.specs.Cells.{length_from}
+use Rattle.std.proofs.lemmas.List.FromFn.{length-range_with_len}
 use Rattle.code.proofs.bare_code.methods.BareCode.dimension.Goals as goal
 
 pub returns : goal.returns
-returns g c = sym (length_from 0 c.args.self.now.cells)
+returns g c = sym (length-range_with_len 0 c.args.self.now.cells)
