@@ -1,5 +1,5 @@
 -- A line's turn at the bench: what its parsing and its floor give is what the card is held to.
-use Rattle.std.proofs.Common.{◌≡◌, ℕ, List, [], ◌∷◌, Ok, Err, sym, refl, subst}
+use Rattle.std.proofs.Common.{◌≡◌, ℕ, List, [], ◌∷◌, Ok, sym, refl, subst, ⊎_elim}
 use Rattle.code.specs.Words.{BlockCode}
 use Rattle.sheet.specs.declared.refusals.Refusal.{Refusal}
 use Rattle.sheet.specs.declared.refusals.Refusal.TheVariants.{OutOfTurn}
@@ -7,19 +7,20 @@ use Rattle.sheet.specs.declared.parsing.Line.{Line}
 use Rattle.sheet.specs.declared.parsing.Line.TheVariants.{Floor, Open}
 use Rattle.sheet.specs.Parsing.{Parsed}
 use Rattle.ledger.specs.Ledger.{Made, floor, Answer, done}
-use Rattle.card.specs.declared.cards.Bench.{Bench}
 use Rattle.card.specs.History.{BenchContinues}
 use Rattle.listing.specs.Told.{form_refusal}
 use Rattle.listing.specs.Turns.{Stage, at_bench, in_service, ForBench, Turn, ill_formed, untimely, floored, opened}
-use Rattle.listing.specs.Serving.{AtTheBench, AtItsOpening, Goes}
+use Rattle.listing.specs.Serving.{Bench, Refuses, AtTheBench, AtItsOpening, Goes}
 
 module _ {C : Type 0} (meaning : C → BlockCode) where
-  pub ill_benched : (b : Bench C) (line : List ℕ) (e : Refusal) → Parsed line (Err e) → Goes (AtTheBench meaning) b line (form_refusal e) b
-  ill_benched b line e parsed made stage at = (stage, ill_formed stage line e parsed, at)
+  late_benched : (b : Bench C) (line : List ℕ) (x : Line) → Parsed line (Ok x) → (ForBench x → ⊥) → Goes (AtTheBench meaning) b line (form_refusal OutOfTurn) b
+  late_benched b line x parsed late made (at_bench past) at = (at_bench past, untimely (at_bench past) line x parsed late, at)
+  late_benched b line x parsed late made (in_service bench past) at = absurd at
 
-  pub untimely_benched : (b : Bench C) (line : List ℕ) (x : Line) → Parsed line (Ok x) → (ForBench x → ⊥) → Goes (AtTheBench meaning) b line (form_refusal OutOfTurn) b
-  untimely_benched b line x parsed late made (at_bench past) at = (at_bench past, untimely (at_bench past) line x parsed late, at)
-  untimely_benched b line x parsed late made (in_service bench past) at = absurd at
+  pub refused_benched : (b : Bench C) (line : List ℕ) (e : Refusal) → Refuses ForBench line e → Goes (AtTheBench meaning) b line (form_refusal e) b
+  refused_benched b line e h =
+      ⊎_elim (λ parsed made stage at. (stage, ill_formed stage line e parsed, at))
+      (λ late. subst (λ k. Goes (AtTheBench meaning) b line (form_refusal k) b) (sym late.0) (late_benched b line late.1.0 late.1.1 late.1.2)) h
 
   pub floor_benched : (b b' : Bench C) (line : List ℕ) (page cell level : ℕ) (a : Answer) → Parsed line (Ok (Floor page cell level)) → BenchContinues meaning b (floor page cell level) a b' → Goes (AtTheBench meaning) b line a b'
   floor_benched b b' line page cell level a parsed go made (at_bench past) at =

@@ -1,5 +1,5 @@
--- A sheet's first line: refused alone, or a card with the lines after it.
-use Rattle.std.proofs.Common.{◌≡◌, ℕ, ◌-◌, ◌<◌, List, [], ◌∷◌, ◌++◌, length, get_or, take, drop, Ok, Err, Result, sym, refl, ap, ◌∙◌, subst, arith, Bor}
+-- A sheet's first line: what it asks for, and what it is told.
+use Rattle.std.proofs.Common.{◌≡◌, ℕ, ◌<◌, List, [], ◌∷◌, drop, Some, Ok, Err, Result, Bor, sym, refl, ◌∙◌, subst, arith}
 use Rattle.alphabet.specs.declared.refusals.Choice as choice
 use Rattle.alphabet.specs.declared.refusals.Choice.TheVariants as choices
 use Rattle.alphabet.specs.declared.refusals.Refusal as code_refusal
@@ -7,21 +7,21 @@ use Rattle.alphabet.specs.declared.refusals.Refusal.TheVariants.{NotOffered}
 use Rattle.code.specs.Words.{BlockCode}
 use Rattle.catalog.specs.declared.kinds.AlphabetKind.{AlphabetKind}
 use Rattle.catalog.specs.declared.kinds.CodeKind.{CodeKind}
-use Rattle.catalog.specs.declared.offered.AnyCode.{AnyCode}
-use Rattle.catalog.specs.Kinds.{code_of, meaning_of}
+use Rattle.catalog.specs.Kinds.{code_of}
 use Rattle.catalog.specs.Offers.{Offer, no_size, no_bare_length, bare_code, no_plane_length, plane_code, Chosen, no_alphabet_kind, no_code_kind, of_kinds}
 use Rattle.sheet.specs.declared.parsing.Line.{Line}
 use Rattle.sheet.specs.declared.parsing.Line.TheVariants.{Card, Floor, Worn, Move, Open, Read, Same, Save}
-use Rattle.sheet.specs.Cutting.{texts}
 use Rattle.sheet.specs.Parsing.{BeginWith, Parsed}
 use Rattle.sheet.proofs.Shown.{shown_small}
 use Rattle.ledger.specs.Ledger.{Answer}
-use Rattle.listing.specs.Rows.{Fits, row}
-use Rattle.listing.specs.Listing.{choice_refusal, AsksForCard, SheetTold, not_on_offer, on_offer}
-use Rattle.listing.specs.Sheets.{ChoiceFits, ChoiceListed, SheetListed}
+use Rattle.listing.specs.declared.run.Run.{Run}
+use Rattle.listing.specs.declared.terms.Asked.{Asked}
+use Rattle.listing.specs.Rows.{Fits}
+use Rattle.listing.specs.Telling.{to_come, FirstLine, Tells}
+use Rattle.listing.specs.Listing.{choice_refusal, AsksForCard, SheetTold}
+use Rattle.listing.specs.Sheets.{CardAsked, CardListed, SheetListed}
 use Rattle.listing.proofs.Fitting.{refusal_fits}
-use Rattle.listing.proofs.Made.{listed_one}
-use Rattle.listing.proofs.Opened.{texts_from}
+use Rattle.listing.proofs.Gathered.{listed_one}
 
 the_refusal : (e e' : code_refusal.Refusal) → ◌≡◌ {A = Result BlockCode code_refusal.Refusal} (Err e) (Err e') → e ≡ e'
 the_refusal e e' same = cc
@@ -48,9 +48,8 @@ chosen_fits a c q n r e small is (no_code_kind _ _ _ was) = subst (λ x. Fits (c
 chosen_fits a c q n r e small is (of_kinds alphabet kind _ _ offer) = offer_fits alphabet q n kind r e small is offer
 
 -- the place of a refused choice is a number of its line
-pub choice_fits : (a c q n : ℕ) (chosen : Result AnyCode code_refusal.Refusal) → n < 10000 → Chosen a c q n (meaning_of chosen) → ChoiceFits chosen
-choice_fits a c q n (Ok code) small h = tt
-choice_fits a c q n (Err e) small h = chosen_fits a c q n (Err e) e small refl h
+pub choice_fits : (a c q n : ℕ) (e : code_refusal.Refusal) → n < 10000 → Chosen a c q n (Err e) → Fits (choice_refusal e)
+choice_fits a c q n e small h = chosen_fits a c q n (Err e) e small refl h
 
 -- the numbers of a card's line
 pub card_small : (columns : List ℕ) (a c q n f p : ℕ) → BeginWith columns (a ∷ c ∷ q ∷ n ∷ f ∷ p ∷ []) → (n < 10000) × (f < 10000) × (p < 10000)
@@ -73,19 +72,10 @@ no_card (Read page) h asks = asks
 no_card (Same one other) h asks = asks
 no_card (Save page symbols) h asks = asks
 
--- the first line and the others
-pub texts_first : (lines : List (Bor (List ℕ))) (d : Bor (List ℕ)) → 0 < length lines → texts lines ≡ (get_or lines 0 d).now ∷ texts (take (length lines - 1) (drop 1 lines))
-texts_first [] d l = absurd (omega arith)
-texts_first (x ∷ lines) d l = ap (λ k. x.now ∷ k) (sym (texts_from 1 (x ∷ lines)))
+-- a first line that is told just this
+pub one_told : (first : Bor (List ℕ)) (a : Answer) (before after : Run) → FirstLine before (Some first) → ((lines : List (List ℕ)) → SheetTold (first.now ∷ lines) (a ∷ [])) → Fits a → Tells before a after → SheetListed before after
+one_told first a before after is told f tells = record { answers = a ∷ []; told = subst (λ k. SheetTold k (a ∷ [])) (sym is) (told (drop 1 (to_come before))); listed = listed_one before after a f tells }
 
-pub one_told : (lines others : List (List ℕ)) (first : List ℕ) (a : Answer) (before after : List ℕ) → lines ≡ first ∷ others → SheetTold (first ∷ others) (a ∷ []) → Fits a → after ≡ before ++ row 1 a → SheetListed lines before after
-one_told lines others first a before after is told f w = record { answers = a ∷ []; told = subst (λ k. SheetTold k (a ∷ [])) (sym is) told; listed = listed_one 1 a before after f w }
-
-pub choice_told : (lines others : List (List ℕ)) (first : List ℕ) (a c q n f p : ℕ) (choice : Result AnyCode code_refusal.Refusal) (before after : List ℕ) → lines ≡ first ∷ others
-    → Parsed first (Ok (Card a c q n f p)) → Chosen a c q n (meaning_of choice) → ChoiceFits choice → ChoiceListed choice f p others before after → SheetListed lines before after
-choice_told lines others first a c q n f p (Ok code) before after is parsed chosen fits h = record {
-  answers = h.answers;
-  told = subst (λ k. SheetTold k h.answers) (sym is) (on_offer first others a c q n f p (code_of code) h.answers parsed chosen h.told);
-  listed = h.listed;
-}
-choice_told lines others first a c q n f p (Err e) before after is parsed chosen fits h = one_told lines others first (choice_refusal e) before after is (not_on_offer first others a c q n f p e parsed chosen) fits h
+-- a first line that asks for a card
+pub card_told : (first : Bor (List ℕ)) (asked : Asked) (before after : Run) → FirstLine before (Some first) → CardAsked first.now (Ok asked) → CardListed (code_of asked.code) asked.terms.allowance asked.terms.pages before after → SheetListed before after
+card_told first asked before after is asks h = record { answers = h.answers; told = subst (λ k. SheetTold k h.answers) (sym is) (asks (drop 1 (to_come before)) h.answers h.told); listed = h.listed }

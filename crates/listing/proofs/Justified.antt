@@ -1,38 +1,36 @@
--- A number at the right end of columns of spaces, digit by digit from the last.
-use Rattle.std.proofs.Common.{◌≡◌, ℕ, zero, suc, ◌+◌, ◌-◌, ◌/◌, ◌%◌, ◌^◌, ◌<◌, ◌≤◌, List, [], ◌∷◌, ◌++◌, length, set, replicate, sym, refl, ap, ◌∙◌, ⊎_elim, append_assoc, pow-suc, arith, length-append}
-use lib.ListN.{length-replicate}
-use Rattle.std.proofs.lemmas.List.{length_push}
+-- A number at the right end of columns of spaces, its last digit first.
+use Rattle.std.proofs.Common.{◌≡◌, ℕ, zero, suc, ◌+◌, ◌-◌, ◌/◌, ◌%◌, ◌^◌, ◌<◌, ◌≤◌, List, [], ◌∷◌, ◌++◌, length, take, replicate, sym, ap, ◌∙◌, ⊎_elim, append_assoc, pow-suc, arith, take_all}
+use Rattle.std.proofs.lemmas.List.{length_push, take-append-le, take-replicate}
 use Rattle.std.proofs.lemmas.Bool.{cases_lt}
 use Rattle.sheet.specs.Fields.{digits, pad_to}
-use Rattle.sheet.proofs.Shown.{digits_one, digits_more, digits_some}
+use Rattle.sheet.proofs.Shown.{digits_one, digits_more}
 
--- the last space becomes a digit
-pub last_space : (n x : ℕ) (s : List ℕ) → set (replicate (suc n) 32 ++ s) n x ≡ replicate n 32 ++ x ∷ s
-last_space zero x s = refl
-last_space (suc n) x s = ap (λ l. 32 ∷ l) (last_space n x s)
+-- spaces are left of spaces
+pub spaces_left : (columns others : List ℕ) (last : ℕ) → columns ≡ others ++ last ∷ [] → columns ≡ replicate (length columns) 32 → others ≡ replicate (length others) 32
+spaces_left columns others last e spaces =
+    sym (take_all (length others) others (omega arith)) ∙ sym (take-append-le (length others) others (last ∷ []) (omega arith))
+    ∙ ap (take (length others)) (sym e ∙ spaces) ∙ take-replicate (length others) (length columns) 32 (omega (arith, ap length e, length_push others last))
 
-pub space_set : (at n x : ℕ) (was s : List ℕ) → at ≡ suc n → was ≡ replicate at 32 ++ s → set was n x ≡ replicate n 32 ++ x ∷ s
-space_set at n x was s e h = ap (λ l. set l n x) (h ∙ ap (λ k. replicate k 32 ++ s) e) ∙ last_space n x s
+-- the digits before the last one have a place in the columns before the last one
+pub fewer_digits : (number n : ℕ) → 10 ≤ number → length (digits number) ≤ n + 1 → length (digits (number / 10)) ≤ n
+fewer_digits number n l fits = omega (arith, ap length (digits_more number l), length_push (digits (number / 10)) (48 + number % 10))
 
--- a digit more is written while the number goes on
-pub digit_more : (number rest : ℕ) (s : List ℕ) → digits number ≡ digits rest ++ s → 10 ≤ rest → digits number ≡ digits (rest / 10) ++ ((48 + rest % 10) ∷ s)
-digit_more number rest s e l = e ∙ ap (λ k. k ++ s) (digits_more rest l) ∙ append_assoc (digits (rest / 10)) ((48 + rest % 10) ∷ []) s
+-- the last digit after the others
+pub digit_more : (number n columns : ℕ) (others : List ℕ) → 10 ≤ number → columns ≡ n + 1 → others ≡ pad_to n (digits (number / 10)) → others ++ (48 + number % 10) ∷ [] ≡ pad_to columns (digits number)
+digit_more number n columns others l e is =
+    let ds = digits (number / 10) in
+    let same : digits number ≡ ds ++ (48 + number % 10) ∷ [] = digits_more number l in
+    let left : n - length ds ≡ columns - length (digits number) = omega (arith, ap length same, length_push ds (48 + number % 10)) in
+    ap (λ k. k ++ (48 + number % 10) ∷ []) is ∙ append_assoc (replicate (n - length ds) 32) ds ((48 + number % 10) ∷ [])
+    ∙ ap (λ k. replicate (n - length ds) 32 ++ k) (sym same) ∙ ap (λ k. replicate k 32 ++ digits number) left
 
--- the first digit is written last
-pub digit_last : (number rest : ℕ) (s : List ℕ) → digits number ≡ digits rest ++ s → rest < 10 → digits number ≡ (48 + rest % 10) ∷ s
-digit_last number rest s e l =
-    let m : rest % 10 ≡ rest = omega arith in
-    e ∙ ap (λ k. k ++ s) (digits_one rest l) ∙ ap (λ k. (48 + k) ∷ s) (sym m)
-
--- all digits stand after the spaces that are left
-pub padded : (columns n number : ℕ) (was s : List ℕ) → was ≡ replicate n 32 ++ s → digits number ≡ s → length was ≡ columns → was ≡ pad_to columns (digits number)
-padded columns n number was s e d l =
-    let k : n ≡ columns - length (digits number) = omega (arith, ap length e, length-append (replicate n 32) s, length-replicate {A = ℕ} n 32, ap length d) in
-    e ∙ ap (λ m. replicate m 32 ++ s) k ∙ ap (λ m. replicate (columns - length (digits number)) 32 ++ m) (sym d)
-
--- columns for all digits are not used up before the number
-pub room_left : (columns number rest : ℕ) (was s : List ℕ) → was ≡ replicate 0 32 ++ s → digits number ≡ digits rest ++ s → length was ≡ columns → length (digits number) ≤ columns → ⊥
-room_left columns number rest was s e d l fits = omega (arith, ap length e, ap length d, length-append (digits rest) s, digits_some rest)
+-- the only digit after spaces
+pub digit_last : (number columns : ℕ) (others : List ℕ) → number < 10 → columns ≡ length others + 1 → others ≡ replicate (length others) 32 → others ++ (48 + number % 10) ∷ [] ≡ pad_to columns (digits number)
+digit_last number columns others l e spaces =
+    let m : number % 10 ≡ number = omega arith in
+    let same : digits number ≡ (48 + number % 10) ∷ [] = digits_one number l ∙ ap (λ k. (48 + k) ∷ []) (sym m) in
+    let left : length others ≡ columns - length (digits number) = omega (arith, ap length same) in
+    ap (λ k. k ++ (48 + number % 10) ∷ []) spaces ∙ ap (λ k. replicate (length others) 32 ++ k) (sym same) ∙ ap (λ k. replicate k 32 ++ digits number) left
 
 -- a number below a power of ten has at most as many digits
 pub digits_most : (n v : ℕ) → v < 10 ^ suc n → length (digits v) ≤ suc n

@@ -1,87 +1,59 @@
 // The lines of a sheet whose card is at the bench.
-ghost use Rattle.std.specs.Prelude.{◌+◌, ◌≤◌, length, IfOk};
-ghost use Rattle.sheet.specs.Cutting.{texts};
-ghost use Rattle.listing.specs.Serving.{AtTheBench, InUse, BenchAsked, BenchLine, BenchLines};
+ghost use Rattle.std.specs.Prelude.{OnOk, IfOk};
+ghost use Rattle.listing.specs.Serving.{AtTheBench, InUse, FloorAsked, BenchLine, BenchLines};
 
-use super::entries::Entry;
-use super::rows::write_row;
+use super::refusals::Refusal;
+use super::run::Run;
 use card::Bench;
 use code::Code;
 use runs::{BenchFloor, Reply, set_floor};
-use sheet::{Line, Refusal, parse};
+use sheet::{Line, parse};
 use std::alloc::AllocError;
 
-/// What a line asks of a card at the bench.
-#[derive(Clone, Copy)]
-pub(crate) enum BenchRequest {
-    Floor { floor: BenchFloor },
-    Opening,
-    /// It is not for the bench.
-    Untimely,
-}
-
-fn bench_request(line: Line<'_>) -> BenchRequest
-    ensures { BenchAsked line.entry result }
+/// The floor that a line asks for, or None where it asks for the opening.
+fn floor_of(line: &[u8]) -> Result<Option<BenchFloor>, sheet::Refusal>
+    ensures { FloorAsked line.now result }
 {
-    match line {
-        Line::Floor { page, cell, floor } => {
-            let floor = BenchFloor {
-                page: usize::from(page),
-                cell: usize::from(cell),
-                floor: usize::from(floor),
-            };
-            BenchRequest::Floor { floor }
-        }
-        Line::Open => BenchRequest::Opening,
-        Line::Card { .. }
-        | Line::Worn { .. }
-        | Line::Move { .. }
-        | Line::Read { .. }
-        | Line::Same { .. }
-        | Line::Save { .. } => BenchRequest::Untimely,
+    match parse(line)? {
+        Line::Floor { page, cell, floor } => Ok(Some(BenchFloor {
+            page: usize::from(page),
+            cell: usize::from(cell),
+            floor: usize::from(floor),
+        })),
+        Line::Open => Ok(None),
+        _ => Err(sheet::Refusal::OutOfTurn),
     }
 }
 
-/// What a line is told, or None where it opens the card.
-fn bench_line<C: Code>(card: &mut Bench<C>, line: &[u8]) -> Option<Entry>
+/// Takes the floor that a line asks for, and answers whether it asks for the opening.
+fn bench_line<C: Code>(card: &mut Bench<C>, line: &[u8]) -> Result<bool, Refusal>
     ensures { BenchLine C.Code.meaning card.old line.now result card.new }
 {
-    let line = match parse(line) {
-        Ok(line) => line,
-        Err(refusal) => return Some(Entry::Refused { refusal }),
+    let Some(floor) = floor_of(line)? else {
+        return Ok(true);
     };
-    match bench_request(line) {
-        BenchRequest::Floor { floor } => {
-            let reply = set_floor(card, floor);
-            Some(Entry::Answered { reply })
-        }
-        BenchRequest::Opening => None,
-        BenchRequest::Untimely => {
-            let refusal = Refusal::OutOfTurn;
-            Some(Entry::Refused { refusal })
-        }
-    }
+    set_floor(card, floor)?;
+    Ok(false)
 }
 
-/// Lists the lines up to the one that opens the card, numbered from this number on.
-/// Answers how many lines that took, or None where no line opens the card.
+/// Lists the lines up to one that opens the card, and answers whether there is one.
 pub(crate) fn bench_lines<C: Code>(
     card: &mut Bench<C>,
-    lines: &[&[u8]],
-    number: usize,
-    mut out: Vec<u8>,
-) -> Result<(Option<usize>, Vec<u8>), AllocError>
-    requires used { InUse (AtTheBench C.Code.meaning) card.old }
-    requires few { number + length lines.now ≤ 1000000 }
-    ensures { IfOk result (λ v. BenchLines C.Code.meaning card.old (texts lines.now) number out.items v.0 card.new v.1.items) }
+    run: &mut Run<'_>,
+) -> Result<bool, AllocError>
+    requires { InUse (AtTheBench C.Code.meaning) card.old }
+    ensures { IfOk result (λ opened. BenchLines C.Code.meaning card.old run.old opened card.new run.new) }
 {
-    for (i, line) in lines.iter().enumerate() {
-        let Some(entry) = bench_line(card, line) else {
-            let reply = Reply::Done;
-            out = write_row(out, number + i, &Entry::Answered { reply })?;
-            return Ok((Some(i + 1), out));
-        };
-        out = write_row(out, number + i, &entry)?;
+    while let Some(line) = run.line() {
+        match bench_line(card, line) {
+            Ok(opens) => {
+                run.tell(Ok(Reply::Done))?;
+                if opens {
+                    return Ok(true);
+                }
+            }
+            Err(refusal) => run.tell(Err(refusal))?,
+        }
     }
-    Ok((None, out))
+    Ok(false)
 }

@@ -3,10 +3,12 @@
 
 mod bench;
 mod cards;
-mod entries;
 mod lists;
+mod refusals;
 mod requests;
 mod rows;
+mod run;
 mod service;
+mod terms;
 
 pub use lists::list;

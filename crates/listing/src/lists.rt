@@ -1,16 +1,16 @@
 // The listing of a sheet.
-ghost use Rattle.std.specs.Prelude.{◌<◌, ◌≤◌, length, IfOk};
-ghost use Rattle.sheet.specs.Cutting.{texts};
-ghost use Rattle.listing.specs.Listing.{Listing};
+ghost use Rattle.std.specs.Prelude.{◌<◌, length, IfOk, OnOk};
 ghost use Rattle.catalog.specs.Kinds.{code_of};
-ghost use Rattle.listing.specs.Sheets.{CardListed, ChoiceFits, ChoiceListed, SheetListed};
+ghost use Rattle.listing.specs.Listing.{Listing};
+ghost use Rattle.listing.specs.Sheets.{CardAsked, CardListed, SheetListed};
 
-use super::cards::{FIRST_LINE, list_card};
-use super::entries::Entry;
+use super::cards::list_card;
+use super::refusals::Refusal;
 use super::rows::write_row;
-use catalog::{AnyCode, choose};
-use runs::Reply;
-use sheet::{Line, Refusal, all_lines, check_sheet, parse};
+use super::run::Run;
+use super::terms::{Asked, Terms};
+use catalog::{Wanted, with_code};
+use sheet::{Line, all_lines, check_sheet, parse};
 use std::alloc::{AllocError, Global};
 
 /// The number under which a sheet is refused as a whole.
@@ -20,25 +20,36 @@ const NO_LINE: usize = 0;
 pub fn list(heap: Global, sheet: &[u8]) -> Result<Vec<u8>, AllocError>
     ensures { IfOk result (λ v. Listing sheet.now v.items) }
 {
-    let out = Vec::new(heap);
     if let Err(refusal) = check_sheet(sheet) {
-        return write_row(out, NO_LINE, &Entry::Refused { refusal });
+        let mut rows = Vec::new(heap);
+        write_row(&mut rows, NO_LINE, &Err(Refusal::Sheet(refusal)))?;
+        return Ok(rows);
     }
     let lines = all_lines(heap, sheet)?;
-    list_lines(heap, lines.as_slice(), out)
+    let mut run = Run::new(heap, lines.as_slice());
+    list_lines(heap, &mut run)?;
+    Ok(run.rows)
 }
 
 /// Lists the lines of a sheet.
-fn list_lines(heap: Global, lines: &[&[u8]], out: Vec<u8>) -> Result<Vec<u8>, AllocError>
-    requires some { 0 < length lines.now }
-    requires few { length lines.now ≤ 65536 }
-    ensures { IfOk result (λ v. SheetListed (texts lines.now) out.items v.items) }
+fn list_lines(heap: Global, run: &mut Run<'_>) -> Result<(), AllocError>
+    requires { 0 < length run.old.lines.now }
+    ensures { OnOk result (SheetListed run.old run.new) }
 {
-    let line = match parse(lines[0]) {
-        Ok(line) => line,
-        Err(refusal) => return write_row(out, FIRST_LINE, &Entry::Refused { refusal }),
+    let Some(first) = run.line() else {
+        return Ok(());
     };
-    match line {
+    match card_asked(first) {
+        Ok(asked) => list_asked(heap, asked, run),
+        Err(refusal) => run.tell(Err(refusal)),
+    }
+}
+
+/// The card that a sheet's first line asks for.
+fn card_asked(first: &[u8]) -> Result<Asked, Refusal>
+    ensures { CardAsked first.now result }
+{
+    match parse(first)? {
         Line::Card {
             alphabet,
             code,
@@ -47,72 +58,28 @@ fn list_lines(heap: Global, lines: &[&[u8]], out: Vec<u8>) -> Result<Vec<u8>, Al
             f,
             pages,
         } => {
-            let choice = choose(
-                usize::from(alphabet),
-                usize::from(code),
-                usize::from(q),
-                usize::from(n),
-            );
-            list_choice(
-                heap,
-                choice,
-                usize::from(f),
-                usize::from(pages),
-                &lines[1..],
-                out,
-            )
+            let wanted = Wanted {
+                alphabet: usize::from(alphabet),
+                code: usize::from(code),
+                q: usize::from(q),
+                n: usize::from(n),
+            };
+            let code = wanted.choose()?;
+            let terms = Terms {
+                allowance: usize::from(f),
+                pages: usize::from(pages),
+            };
+            Ok(Asked { code, terms })
         }
-        _ => {
-            let refusal = Refusal::OutOfTurn;
-            write_row(out, FIRST_LINE, &Entry::Refused { refusal })
-        }
+        _ => Err(Refusal::Sheet(sheet::Refusal::OutOfTurn)),
     }
 }
 
-/// Lists a sheet whose first line asks for a card of the code that was chosen.
-fn list_choice(
-    heap: Global,
-    choice: Result<AnyCode, alphabet::Refusal>,
-    allowance: usize,
-    pages: usize,
-    lines: &[&[u8]],
-    out: Vec<u8>,
-) -> Result<Vec<u8>, AllocError>
-    requires fits { ChoiceFits choice }
-    requires allowance { allowance < 10000 }
-    requires pages { pages < 10000 }
-    requires few { length lines.now ≤ 65536 }
-    ensures { IfOk result (λ v. ChoiceListed choice allowance pages (texts lines.now) out.items v.items) }
+/// Lists a sheet whose first line asks for this card.
+fn list_asked(heap: Global, asked: Asked, run: &mut Run<'_>) -> Result<(), AllocError>
+    requires { 0 < length run.old.lines.now }
+    ensures { OnOk result (CardListed (code_of asked.code) asked.terms.allowance asked.terms.pages run.old run.new) }
 {
-    match choice {
-        Ok(code) => list_code(heap, code, allowance, pages, lines, out),
-        Err(refusal) => {
-            let refusal = masking::Refusal::Coding { refusal };
-            let refusal = card::Refusal::Masking { refusal };
-            let reply = Reply::Refused { refusal };
-            write_row(out, FIRST_LINE, &Entry::Answered { reply })
-        }
-    }
-}
-
-/// Lists a sheet whose first line asks for a card of this code.
-fn list_code(
-    heap: Global,
-    code: AnyCode,
-    allowance: usize,
-    pages: usize,
-    lines: &[&[u8]],
-    out: Vec<u8>,
-) -> Result<Vec<u8>, AllocError>
-    requires allowance { allowance < 10000 }
-    requires pages { pages < 10000 }
-    requires few { length lines.now ≤ 65536 }
-    ensures { IfOk result (λ v. CardListed (code_of code) allowance pages (texts lines.now) out.items v.items) }
-{
-    match code {
-        AnyCode::BareResidues(code) => list_card(heap, code, allowance, pages, lines, out),
-        AnyCode::BareBinary(code) => list_card(heap, code, allowance, pages, lines, out),
-        AnyCode::PlaneResidues(code) => list_card(heap, code, allowance, pages, lines, out),
-        AnyCode::PlaneBinary(code) => list_card(heap, code, allowance, pages, lines, out),
-    }
+    let Asked { code, terms } = asked;
+    with_code!(code, code => list_card(heap, code, terms, run))
 }

@@ -1,43 +1,37 @@
-use Rattle.std.proofs.Common.{◌+◌, take, vec_items, ap, subst, arith}
-use Rattle.sheet.specs.Cutting.{texts}
+use Rattle.std.proofs.Common.{subst}
+use Rattle.std.specs.Prelude.{Ok, Err}
 use Rattle.ledger.specs.Ledger.{done}
-use Rattle.listing.specs.Serving.{AtTheBench, AtItsOpening, ListedLines}
+use Rattle.listing.specs.Told.{told}
+use Rattle.listing.specs.Serving.{AtTheBench, AtItsOpening, BenchLine}
 use Rattle.listing.proofs.Benched.{open_benched}
 use Rattle.listing.proofs.Fitting.{done_fits}
-use Rattle.listing.proofs.Gathered.{bench_sound, none_listed, line_fits, one_listed, lines_more, lines_all, lines_so_far, length_texts}
+use Rattle.listing.proofs.Gathered.{bench_sound, none_listed, line_fits, one_listed}
 use Rattle.listing.proofs.bench.bench_lines.Goals as goal
 
-pub loop-i-init : goal.loop-i-init
-loop-i-init g c = none_listed (AtTheBench g.C.Code.meaning) (bench_sound g.C.Code.meaning g.met.C.Code.lawful) c.args.card.now c.args.number (vec_items c.args.out)
+pub loop-line-init : goal.loop-line-init
+loop-line-init g c = none_listed (AtTheBench g.C.Code.meaning) (bench_sound g.C.Code.meaning g.met.C.Code.lawful) c.args.card.now c.args.run.now
 
-pub write_row-requires-in-loop-i : goal.write_row-requires-in-loop-i
-write_row-requires-in-loop-i g c = record {
-  number = omega (arith, c.requires.few, c.loop-i-test.true);
-  fits =
-      line_fits (AtTheBench g.C.Code.meaning) (bench_sound g.C.Code.meaning g.met.C.Code.lawful) c.args.card.now c.loop-i.card c.bench_line.new.card
-      (take c.loop-i.i (texts c.args.lines.now)) c.loop-i.invariant.answers _ _ c.requires.used c.loop-i.invariant.goes c.in-Some.ensures;
-}
+pub tell-requires-in-Err-clause-fits : goal.tell-requires-in-Err-clause-fits
+tell-requires-in-Err-clause-fits g c =
+    line_fits (AtTheBench g.C.Code.meaning) (bench_sound g.C.Code.meaning g.met.C.Code.lawful) c.args.card.now c.loop-line.card c.bench_line.new.card c.args.run.now c.loop-line.run c.in-Some.line.now
+    (told (Err c.in-Err.refusal)) c.requires c.loop-line.invariant c.in-Err.ensures
 
-pub loop-i-preserved : goal.loop-i-preserved
-loop-i-preserved g c =
-    one_listed (AtTheBench g.C.Code.meaning) (bench_sound g.C.Code.meaning g.met.C.Code.lawful) (AtTheBench g.C.Code.meaning) c.args.card.now c.loop-i.card c.bench_line.new.card _ _ _ _ c.args.number _
-    (vec_items c.args.out) (vec_items c.loop-i.out) _ c.loop-i.invariant c.in-Some.ensures
-    (line_fits (AtTheBench g.C.Code.meaning) (bench_sound g.C.Code.meaning g.met.C.Code.lawful) c.args.card.now c.loop-i.card c.bench_line.new.card (take c.loop-i.i (texts c.args.lines.now)) c.loop-i.invariant.answers _ _ c.requires.used c.loop-i.invariant.goes c.in-Some.ensures)
-    (lines_more c.args.lines.now c.loop-i.i _ c.loop-i-test.true)
-    (ap (λ n. c.args.number + n) (lines_so_far c.args.lines.now c.loop-i.i c.loop-i-test.true))
-    c.in_ok-out-2.ensures
+pub loop-line-preserved : goal.loop-line-preserved
+loop-line-preserved g c =
+    let At = AtTheBench g.C.Code.meaning in
+    let sound = bench_sound g.C.Code.meaning g.met.C.Code.lawful in
+    one_listed At sound At c.args.card.now c.loop-line.card c.bench_line.new.card c.args.run.now c.loop-line.run c.tell-in-Err.new.self c.in-Some.line (told (Err c.in-Err.refusal)) c.loop-line.invariant c.in-Some.ensures c.in-Err.ensures
+    (line_fits At sound c.args.card.now c.loop-line.card c.bench_line.new.card c.args.run.now c.loop-line.run c.in-Some.line.now (told (Err c.in-Err.refusal)) c.requires c.loop-line.invariant c.in-Err.ensures) c.in_ok-tell-in-Err.ensures
 
-pub returns-in_default : goal.returns-in_default
-returns-in_default g c = (
-  omega (arith, length_texts c.args.lines.now, c.loop-i-test.true),
-  one_listed (AtTheBench g.C.Code.meaning) (bench_sound g.C.Code.meaning g.met.C.Code.lawful) (AtItsOpening g.C.Code.meaning) c.args.card.now c.loop-i.card c.bench_line.new.card _ _ _ done c.args.number _
-      (vec_items c.args.out) (vec_items c.loop-i.out) _ c.loop-i.invariant (open_benched g.C.Code.meaning c.loop-i.card c.bench_line.new.card _ c.in_default.ensures) done_fits
-      (lines_more c.args.lines.now c.loop-i.i _ c.loop-i-test.true)
-      (ap (λ n. c.args.number + n) (lines_so_far c.args.lines.now c.loop-i.i c.loop-i-test.true))
-      c.in_ok-out.ensures,
-)
+pub loop-line-preserved-else-opens : goal.loop-line-preserved-else-opens
+loop-line-preserved-else-opens g c =
+    let At = AtTheBench g.C.Code.meaning in
+    let floored = subst (λ k. BenchLine g.C.Code.meaning c.loop-line.card c.in-Some.line.now (Ok k) c.bench_line.new.card) c.if-opens.false c.in-Ok.ensures in
+    one_listed At (bench_sound g.C.Code.meaning g.met.C.Code.lawful) At c.args.card.now c.loop-line.card c.bench_line.new.card c.args.run.now c.loop-line.run c.tell.new.self c.in-Some.line done c.loop-line.invariant c.in-Some.ensures
+    floored done_fits c.in_ok-tell-in-Ok.ensures
 
-pub returns : goal.returns
-returns g c =
-    subst (λ k. ListedLines (AtTheBench g.C.Code.meaning) (AtTheBench g.C.Code.meaning) c.args.card.now k c.args.number (vec_items c.args.out) c.loop-i.card (vec_items c.loop-i.out))
-    (lines_all c.args.lines.now c.loop-i.i c.loop-i-test.false) c.loop-i.invariant
+pub returns-then-opens : goal.returns-then-opens
+returns-then-opens g c =
+    let opening = subst (λ k. BenchLine g.C.Code.meaning c.loop-line.card c.in-Some.line.now (Ok k) c.bench_line.new.card) c.if-opens.true c.in-Ok.ensures in
+    one_listed (AtTheBench g.C.Code.meaning) (bench_sound g.C.Code.meaning g.met.C.Code.lawful) (AtItsOpening g.C.Code.meaning) c.args.card.now c.loop-line.card c.bench_line.new.card c.args.run.now c.loop-line.run c.tell.new.self c.in-Some.line done
+    c.loop-line.invariant c.in-Some.ensures (open_benched g.C.Code.meaning c.loop-line.card c.bench_line.new.card c.in-Some.line.now opening) done_fits c.in_ok-tell-in-Ok.ensures

@@ -4,18 +4,14 @@ use Rattle.listing.proofs.Symbols.{none_yet, room_there, one_more, all_taken}
 use Rattle.listing.proofs.requests.read_symbols.Goals as goal
 
 pub loop-value-init : goal.loop-value-init
-loop-value-init c = none_yet _ _
+loop-value-init c = none_yet _ _ c.requires.none
+
+pub push-requires : goal.push-requires
+push-requires c = let room = room_there _ _ _ _ c.loop-value.invariant c.requires.whole c.in-Some.ensures.0 in search rules
 
 pub loop-value-preserved : goal.loop-value-preserved
 loop-value-preserved c =
-    one_more _ c.loop-value.rest.now _ _ _ c.in-Some.value _ c.loop-value.invariant c.in-Some.ensures (c.min.ensures ∙ ap (λ m. min c.in-Some.value m) c.from.ensures)
-    (omega (arith, room_there _ _ _ _ _ c.loop-value.invariant c.requires.whole c.in-Some.ensures.0, c.loop-value.auto.symbols, c.requires.room))
-
-pub bounds-symbols-count : goal.bounds-symbols-count
-bounds-symbols-count c = omega (arith, room_there _ _ _ _ _ c.loop-value.invariant c.requires.whole c.in-Some.ensures.0, c.loop-value.auto.symbols, c.requires.room)
-
-pub overflow_add-count : goal.overflow_add-count
-overflow_add-count c = let h = room_there _ _ _ _ _ c.loop-value.invariant c.requires.whole c.in-Some.ensures.0 in search rules
+    one_more _ c.loop-value.rest.now _ _ _ c.in-Some.value _ c.loop-value.invariant c.in-Some.ensures (c.min.ensures ∙ ap (λ m. min c.in-Some.value m) c.from.ensures) c.push.ensures.items
 
 pub loop-value-smaller : goal.loop-value-smaller
 loop-value-smaller c =
@@ -23,4 +19,4 @@ loop-value-smaller c =
     omega (arith, ap length taken.1, length-drop 4 c.loop-value.rest.now, shown_long _ c.in-Some.value taken.0, length-take 4 c.loop-value.rest.now)
 
 pub returns : goal.returns
-returns c = record { shown = all_taken _ _ _ _ c.loop-value.invariant c.requires.whole c.in_default.ensures; bound = omega (arith, c.loop-value.invariant.inside, c.requires.whole.2) }
+returns c = all_taken _ _ _ c.loop-value.invariant c.requires.whole c.in_default.ensures
