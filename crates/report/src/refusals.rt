@@ -34,6 +34,9 @@ impl<R: Report + fmt::Display> fmt::Display for Reported<'_, R> {
         let number = refusal.number();
         let layer = refusal.layer();
         let place = refusal.place();
-        write!(f, "refused {number}, layer {layer}, place {place}: {refusal}")
+        write!(
+            f,
+            "refused {number}, layer {layer}, place {place}: {refusal}"
+        )
     }
 }
