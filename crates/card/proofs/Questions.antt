@@ -71,5 +71,5 @@ compared_step made l p r c d m k false one other decides = unlike l p r c d m k 
 
 -- a read of a page that is there, into a buffer of the right length
 pub read_step : (made : Made) (l : List ledger.Page) (p room : ℕ) (r : Result ℕ Refusal) (message : List ℕ) → p < made.pages → room ≡ length (rest made.code.information) → FetchedInLedger made l p r message → Step made l (read p room) (read_answer r message) l
-read_step made l p room (Ok corrected) message low long h = is_read l p room corrected message long h
-read_step made l p room (Err e) message low long h = not_read l p room (refusal_answer e) low long h
+read_step made l p room (Ok corrected) message there long h = is_read l p room corrected message long h
+read_step made l p room (Err e) message there long h = not_read l p room (refusal_answer e) there long h
