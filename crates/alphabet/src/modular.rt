@@ -44,6 +44,7 @@ impl Residues {
         } else {
             total - q
         };
+        // it fits, where `try_from` would bring an error that cannot come
         symbol as u8
     }
 

@@ -33,6 +33,7 @@ impl PrimeResidues {
     }
 }
 
+// Each call is the residues' own: no derive hands a trait on.
 impl Alphabet for PrimeResidues {
     ghost meaning = { λ s. modulo s.residues.q };
 

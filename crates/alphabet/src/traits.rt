@@ -27,6 +27,7 @@ pub trait Alphabet {
 
 /// An alphabet of three or more symbols in which each symbol but 0 has an inverse.
 pub trait Field: Alphabet {
+    // No default, though `with_inverses` of the alphabet serves the fields here: a default sees no member.
     ghost meaning: { Self → FieldArithmetic };
 
     /// The symbol whose product with `a` is 1; none at 0. The field's sums and products are the alphabet's.

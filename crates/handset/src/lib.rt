@@ -16,6 +16,7 @@ const REFUSED: u32 = 100;
 pub fn handset_read(alphabet: u32, code: u32, q: u32, levels: &[u8], message: &mut [u8]) -> u32
     ensures { Handset alphabet code q levels.now message.old result message.new }
 {
+    // each number fits a `usize`, for which Rust has no `From<u32>`
     let wanted = Wanted {
         alphabet: alphabet as usize,
         code: code as usize,
@@ -24,6 +25,7 @@ pub fn handset_read(alphabet: u32, code: u32, q: u32, levels: &[u8], message: &m
     };
     match wanted.choose() {
         Ok(chosen) => with_code!(&chosen, code => answer(code, levels, message)),
+        // as in `answer`: a function for both would ask for a bound on a refusal's number
         Err(refusal) => REFUSED + refusal.number() as u32,
     }
 }

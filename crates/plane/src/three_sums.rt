@@ -8,6 +8,7 @@ ghost use Rattle.plane.specs.Lines.{row_part, ColumnsSummed, SumsOf};
 use alphabet::Alphabet;
 
 /// An alphabet has at most so many symbols.
+// No call on a word allocates, so the columns' sums lie in an array for the most symbols.
 const MOST_SYMBOLS: usize = 16;
 
 /// What a word's levels, its levels times their rows and its levels times their columns sum to.
@@ -38,6 +39,7 @@ impl<'a, A: Alphabet> Rows<'a, A> {
         let start = q * usize::from(a);
         let row = &self.word[start..start + q];
         let mut sum = 0;
+        // through a `zip` of `columns.iter_mut()` the loop's invariant has no name for the columns
         for (b, level) in row.iter().enumerate() {
             sum = self.alphabet.sum(sum, *level);
             columns[b] = self.alphabet.sum(columns[b], *level);
@@ -52,6 +54,7 @@ impl<'a, A: Alphabet> Rows<'a, A> {
         let mut levels = 0;
         let mut rows = 0;
         let mut columns = [0; MOST_SYMBOLS];
+        // `a` is the row's number and the symbol that its sum is multiplied by
         for a in 0..self.alphabet.size() {
             let row = self.add(a, &mut columns);
             levels = self.alphabet.sum(levels, row);

@@ -13,10 +13,10 @@ impl Page {
         if cell >= self.floors.len() {
             return Err(Refusal::NoCell { cell });
         }
-        if level >= size as usize {
-            return Err(Refusal::NoLevel { level });
+        match u8::try_from(level) {
+            Ok(given) if given < size => Ok(given),
+            _ => Err(Refusal::NoLevel { level }),
         }
-        Ok(level as u8)
     }
 
     /// Takes a bench floor: the cell's level becomes the floor.
