@@ -26,9 +26,6 @@ use Rattle.listing.proofs.Gathered.{listed_one}
 the_refusal : (e e' : code_refusal.Refusal) → ◌≡◌ {A = Result BlockCode code_refusal.Refusal} (Err e) (Err e') → e ≡ e'
 the_refusal e e' same = cc
 
-no_refusal : (code : BlockCode) (e : code_refusal.Refusal) → ◌≡◌ {A = Result BlockCode code_refusal.Refusal} (Ok code) (Err e) → ⊥
-no_refusal code e same = let z : ◌≡◌ {A = ℕ} 0 1 = cc in omega arith
-
 not_offered_fits : (c : choice.Choice) → Fits (choice_refusal (NotOffered c))
 not_offered_fits choices.AlphabetKind = refusal_fits 24 1 1 (omega arith) (omega arith) (omega arith)
 not_offered_fits choices.CodeKind = refusal_fits 24 1 2 (omega arith) (omega arith) (omega arith)
@@ -38,9 +35,9 @@ not_offered_fits choices.CodeLength = refusal_fits 24 1 4 (omega arith) (omega a
 offer_fits : (alphabet : AlphabetKind) (q n : ℕ) (kind : CodeKind) (r : Result BlockCode code_refusal.Refusal) (e : code_refusal.Refusal) → n < 10000 → r ≡ Err e → Offer alphabet q n kind r → Fits (choice_refusal e)
 offer_fits alphabet q n kind r e small is (no_size _ _) = subst (λ x. Fits (choice_refusal x)) (the_refusal _ e is) (not_offered_fits choices.AlphabetSize)
 offer_fits alphabet q n kind r e small is (no_bare_length _ _) = subst (λ x. Fits (choice_refusal x)) (the_refusal _ e is) (refusal_fits 3 1 n (omega arith) (omega arith) small)
-offer_fits alphabet q n kind r e small is (bare_code _ _ _) = absurd (no_refusal _ e is)
+offer_fits alphabet q n kind r e small is (bare_code _ _ _) = absurd cc
 offer_fits alphabet q n kind r e small is (no_plane_length _ _) = subst (λ x. Fits (choice_refusal x)) (the_refusal _ e is) (not_offered_fits choices.CodeLength)
-offer_fits alphabet q n kind r e small is (plane_code _ _) = absurd (no_refusal _ e is)
+offer_fits alphabet q n kind r e small is (plane_code _ _) = absurd cc
 
 chosen_fits : (a c q n : ℕ) (r : Result BlockCode code_refusal.Refusal) (e : code_refusal.Refusal) → n < 10000 → r ≡ Err e → Chosen a c q n r → Fits (choice_refusal e)
 chosen_fits a c q n r e small is (no_alphabet_kind _ was) = subst (λ x. Fits (choice_refusal x)) (the_refusal _ e (sym was ∙ is)) (not_offered_fits choices.AlphabetKind)

@@ -39,9 +39,6 @@ form_fits line OutOfTurn h = absurd h
 pub turn_fits : Fits (form_refusal OutOfTurn)
 turn_fits = refusal_fits 23 3 1 (omega arith) (omega arith) (omega arith)
 
-pub sheet_fits : Fits (form_refusal SheetLength)
-sheet_fits = refusal_fits 26 3 0 (omega arith) (omega arith) (omega arith)
-
 -- a page, a cell and a level that a line names
 pub spot_small : (columns : List ℕ) (p c v : ℕ) → BeginWith columns (p ∷ c ∷ v ∷ []) → (p < 10000) × (c < 10000) × (v < 10000)
 spot_small columns p c v h = (shown_small _ p h.0, shown_small _ c h.1.0, shown_small _ v h.1.1.0)

@@ -36,22 +36,7 @@ module _ {C : Type 0} (meaning : C → BlockCode) where
   room_made room b made (at_bench past) e at = e ∙ ap (λ code. length (rest code.information)) at.2.coded
   room_made room b made (in_service bench past) e at = absurd at
 
-  pub opened_in_use : (room : ℕ) (b b' : Bench C) (s : Service C) (before between : Run) → InUse (AtTheBench meaning) b → room ≡ length (rest (meaning b.code).information) → BenchLines meaning b before true b' between → Opens b' s → InUse (AtService meaning room) s
-  opened_in_use room b b' s before between used e h opens =
-      let next = h.goes used.made used.stage used.led in
-      record { made = used.made; stage = next.0; led = serving room b' s used.made next.0 opens (room_made room b used.made used.stage e used.led) next.2 }
-
   module _ (lawful : (c : C) → CodeLaws (meaning c)) where
-    -- no line opens the card
-    pub others_at_bench : (b b' : Bench C) (before after : Run) → BenchLines meaning b before false b' after → OthersListed meaning b before after
-    others_at_bench b b' before after (h, none) = record {
-      answers = h.answers;
-      listed = h.listed;
-      goes = λ made stage at.
-          let next = h.goes made stage at in
-          (next.0, subst (λ z. Turns made stage z h.answers next.0) (all_of _ h.lines _ h.gone none) next.1, (bench_sound meaning lawful made next.0 b' next.2).1);
-    }
-
     -- a line opens the card, and the others are served
     pub others_served : (room : ℕ) (b b' : Bench C) (s s' : Service C) (before between after : Run) → room ≡ length (rest (meaning b.code).information)
         → BenchLines meaning b before true b' between → Opens b' s → AllListed (AtService meaning room) s between s' after → OthersListed meaning b before after

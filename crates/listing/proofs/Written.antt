@@ -3,11 +3,6 @@ use Rattle.std.proofs.Common.{◌≡◌, ℕ, zero, suc, ◌+◌, ◌<◌, List,
 use Rattle.std.proofs.lemmas.List.{take_more}
 use Rattle.listing.specs.Rows.{field, columns, AllFit}
 
--- what is shown of an answer is shown where it is granted
-pub mapped : {V E : Type 0} (r : Result V E) (P Q : V → Type 0) → ((v : V) → P v → Q v) → IfOk r P → IfOk r Q
-mapped (Ok v) P Q f h = f v h
-mapped (Err e) P Q f h = tt
-
 -- bytes that are appended where there is memory
 pub appended : {V E : Type 0} (r : Result V E) (was out part bytes : List ℕ) → out ≡ (if is_ok r then was ++ part else was) → part ≡ bytes → OnOk r (out ≡ was ++ bytes)
 appended (Ok v) was out part bytes w e = w ∙ ap (λ k. was ++ k) e
@@ -28,7 +23,3 @@ pub fits_at : (xs : List ℕ) (i : ℕ) → AllFit xs → i < length xs → get_
 fits_at [] i h l = absurd (omega arith)
 fits_at (x ∷ xs) zero h l = h.0
 fits_at (x ∷ xs) (suc i) h l = fits_at xs i h.1 (omega arith)
-
-pub columns_append : (xs ys : List ℕ) → columns (xs ++ ys) ≡ columns xs ++ columns ys
-columns_append [] ys = refl
-columns_append (x ∷ xs) ys = ap (λ k. field x ++ k) (columns_append xs ys) ∙ sym (append_assoc (field x) (columns xs) (columns ys))

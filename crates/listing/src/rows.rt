@@ -17,6 +17,7 @@ const LINE_NUMBER: usize = 6;
 const GRANTED: usize = 0;
 
 /// Puts a number at the right end of columns that hold spaces.
+// No loop over `iter_mut().rev()`: after it a proof knows nothing of what the columns hold.
 fn justify(columns: &mut [u8], number: usize)
     requires spaces { columns.old ≡ replicate (length columns.old) 32 }
     requires fits { length (digits number) ≤ length columns.old }
@@ -62,6 +63,8 @@ fn put_fields(out: &mut Vec<u8>, fields: &[usize]) -> Result<(), AllocError>
 }
 
 /// Puts a field for each symbol.
+// Not one function with `put_fields`: at a type that converts to a number, or over an iterator, the clauses speak of relations in
+// place of the numbers, which is longer than this loop.
 fn put_symbols(out: &mut Vec<u8>, symbols: &[u8]) -> Result<(), AllocError>
     ensures { OnOk result (out.new.items ≡ out.old.items ++ shown-columns symbols.now) }
 {
