@@ -2,10 +2,11 @@
 #![tactic(auto)]
 
 use listing::list;
+use sheet::LONGEST_SHEET;
 use std::io::{Read, Write};
 
 /// The longest sheet and one byte more, which tells that a sheet is too long.
-const MOST_READ: u64 = 65_537;
+const MOST_READ: u64 = LONGEST_SHEET as u64 + 1;
 
 fn main(rt: HostRuntime) -> anyhow::Result<()> {
     let mut sheet = Vec::new(rt.alloc());

@@ -11,8 +11,7 @@ pub const ASKED_CODES: [Example<'static>; 15] = [
             n: 1,
             ..BARE_OF_THREE
         },
-        cells: 0,
-        steps: &[],
+        ..NOTHING_MORE
     },
     Example {
         label: "2 cells",
@@ -20,8 +19,7 @@ pub const ASKED_CODES: [Example<'static>; 15] = [
             n: 2,
             ..BARE_OF_THREE
         },
-        cells: 0,
-        steps: &[],
+        ..NOTHING_MORE
     },
     Example {
         label: "256 cells",
@@ -29,8 +27,7 @@ pub const ASKED_CODES: [Example<'static>; 15] = [
             n: 256,
             ..BARE_OF_THREE
         },
-        cells: 0,
-        steps: &[],
+        ..NOTHING_MORE
     },
     Example {
         label: "257 cells",
@@ -38,8 +35,7 @@ pub const ASKED_CODES: [Example<'static>; 15] = [
             n: 257,
             ..BARE_OF_THREE
         },
-        cells: 0,
-        steps: &[],
+        ..NOTHING_MORE
     },
     Example {
         label: "unknown alphabet",
@@ -47,8 +43,7 @@ pub const ASKED_CODES: [Example<'static>; 15] = [
             alphabet: UNKNOWN,
             ..BARE_OF_THREE
         },
-        cells: 0,
-        steps: &[],
+        ..NOTHING_MORE
     },
     Example {
         label: "unknown code",
@@ -57,8 +52,7 @@ pub const ASKED_CODES: [Example<'static>; 15] = [
             n: 9,
             ..BARE_OF_THREE
         },
-        cells: 0,
-        steps: &[],
+        ..NOTHING_MORE
     },
     Example {
         label: "1 symbol",
@@ -66,8 +60,7 @@ pub const ASKED_CODES: [Example<'static>; 15] = [
             q: 1,
             ..BARE_OF_THREE
         },
-        cells: 0,
-        steps: &[],
+        ..NOTHING_MORE
     },
     Example {
         label: "17 symbols",
@@ -75,8 +68,7 @@ pub const ASKED_CODES: [Example<'static>; 15] = [
             q: 17,
             ..BARE_OF_THREE
         },
-        cells: 0,
-        steps: &[],
+        ..NOTHING_MORE
     },
     Example {
         label: "6 is no power of two",
@@ -85,8 +77,7 @@ pub const ASKED_CODES: [Example<'static>; 15] = [
             q: 6,
             ..BARE_OF_THREE
         },
-        cells: 0,
-        steps: &[],
+        ..NOTHING_MORE
     },
     Example {
         label: "2 are no field",
@@ -96,8 +87,7 @@ pub const ASKED_CODES: [Example<'static>; 15] = [
             n: 4,
             ..BARE_OF_THREE
         },
-        cells: 0,
-        steps: &[],
+        ..NOTHING_MORE
     },
     Example {
         label: "4 residues are no field",
@@ -107,8 +97,7 @@ pub const ASKED_CODES: [Example<'static>; 15] = [
             n: 16,
             ..BARE_OF_THREE
         },
-        cells: 0,
-        steps: &[],
+        ..NOTHING_MORE
     },
     Example {
         label: "4 as a field",
@@ -118,8 +107,7 @@ pub const ASKED_CODES: [Example<'static>; 15] = [
             q: 4,
             n: 16,
         },
-        cells: 0,
-        steps: &[],
+        ..NOTHING_MORE
     },
     Example {
         label: "9 is not 4 x 4",
@@ -129,8 +117,7 @@ pub const ASKED_CODES: [Example<'static>; 15] = [
             q: 4,
             n: 9,
         },
-        cells: 0,
-        steps: &[],
+        ..NOTHING_MORE
     },
     Example {
         label: "the largest",
@@ -140,8 +127,7 @@ pub const ASKED_CODES: [Example<'static>; 15] = [
             q: 16,
             n: 256,
         },
-        cells: 0,
-        steps: &[],
+        ..NOTHING_MORE
     },
     Example {
         label: "all four are wrong",
@@ -151,10 +137,17 @@ pub const ASKED_CODES: [Example<'static>; 15] = [
             q: 17,
             n: 257,
         },
-        cells: 0,
-        steps: &[],
+        ..NOTHING_MORE
     },
 ];
+
+/// A code of which nothing more is asked.
+const NOTHING_MORE: Example<'static> = Example {
+    label: "",
+    wanted: BARE_OF_THREE,
+    cells: 0,
+    steps: &[],
+};
 
 /// Pages on which everything is refused.
 pub const ASKED_PAGES: [Example<'static>; 2] = [

@@ -88,7 +88,7 @@ impl<F: Field> Code for Plane<F> {
             };
         }
         let Some(inverse) = self.field.inverse(sums.levels) else {
-            unreachable()
+            unreachable!()
         };
         mend(alphabet, word, sums, inverse);
         Ok(1)

@@ -1,5 +1,5 @@
 // The three sums of a word, in one pass over its cells.
-ghost use Rattle.std.specs.Prelude.{◌≡◌, ℕ, ◌+◌, ◌<◌, ◌%◌, slice_index};
+ghost use Rattle.std.specs.Prelude.{◌≡◌, ◌+◌, ◌<◌, ◌%◌, slice_index};
 ghost use Rattle.code.specs.Words.{Word};
 ghost use Rattle.sums.specs.Sums.{sum_of};
 ghost use Rattle.plane.specs.Plane.{plane_over};

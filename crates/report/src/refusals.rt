@@ -4,6 +4,7 @@ ghost use Rattle.std.specs.Prelude.{◌≡◌, ℕ};
 use std::fmt;
 
 /// Why a call is refused, as the rules tell it.
+// Three answers and no struct of them: the handset tells the number alone, and each layer states each by its own table.
 pub trait Report {
     ghost number: { Self → ℕ };
 

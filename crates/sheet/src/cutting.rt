@@ -1,5 +1,5 @@
 // A sheet's lines: a line feed ends a line, and bytes after the last line feed are a last line.
-ghost use Rattle.std.specs.Prelude.{◌≡◌, ◌<◌, length, IfOk};
+ghost use Rattle.std.specs.Prelude.{◌≡◌, IfOk};
 ghost use Rattle.std.specs.Iterator.{YieldsFirstRef, item_count};
 ghost use Rattle.sheet.specs.Cutting.{FirstCut, NextCut, AllLines, lines_of, texts};
 

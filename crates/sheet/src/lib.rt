@@ -11,4 +11,4 @@ mod verbs;
 pub use cutting::{Lines, all_lines, cut_line};
 pub use fields::{FIELD, field, take_field};
 pub use parsing::{Line, one_reading, parse};
-pub use refusals::{Refusal, check_sheet};
+pub use refusals::{LONGEST_SHEET, Refusal, check_sheet};

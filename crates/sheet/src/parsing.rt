@@ -6,11 +6,8 @@ ghost use Rattle.sheet.specs.Steps.{LineRead};
 ghost use Rattle.sheet.specs.Verbs.{Counted};
 
 use crate::reading::Fields;
-use crate::refusals::Refusal;
+use crate::refusals::{LONGEST_LINE, Refusal};
 use crate::verbs::{Verb, split_verb};
-
-/// The most bytes in a line.
-const LONGEST_LINE: usize = 1_028;
 
 /// The column that a line's first field begins at, from 1.
 const FIRST_FIELD: usize = 5;

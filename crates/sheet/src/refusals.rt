@@ -3,12 +3,14 @@ ghost use Rattle.sheet.specs.Refusals as shown;
 ghost use Rattle.sheet.specs.Refusals.{Checked};
 
 use report::Report;
+use std::error::Error;
+use std::fmt;
 
 /// The most bytes in a sheet.
-const LONGEST_SHEET: usize = 65_536;
+pub const LONGEST_SHEET: usize = 65_536;
 
-/// The place of a line that is too long: its first byte too many.
-const PAST_LONGEST_LINE: usize = 1_029;
+/// The most bytes in a line.
+pub(crate) const LONGEST_LINE: usize = 1_028;
 
 /// Why a sheet or a line is refused.
 #[derive(Clone, Copy, Debug, PartialEq, Eq)]
@@ -52,7 +54,7 @@ impl Report for Refusal {
     fn place(&self) -> usize {
         match self {
             Refusal::SheetLength => 0,
-            Refusal::LineLength => PAST_LONGEST_LINE,
+            Refusal::LineLength => LONGEST_LINE + 1,
             Refusal::UnknownVerb => 1,
             Refusal::FieldCount { bytes } => *bytes,
             Refusal::IllFormedField { column } => *column,
@@ -60,6 +62,21 @@ impl Report for Refusal {
         }
     }
 }
+
+impl fmt::Display for Refusal {
+    fn fmt<W: fmt::Write>(&self, f: &mut fmt::Formatter<W>) -> fmt::Result {
+        f.write_str(match self {
+            Refusal::SheetLength => "a sheet has 1 to 65536 bytes",
+            Refusal::LineLength => "a line has at most 1028 bytes",
+            Refusal::UnknownVerb => "the line begins with no verb",
+            Refusal::FieldCount { .. } => "not as many fields as the verb takes",
+            Refusal::IllFormedField { .. } => "the field shows no number",
+            Refusal::OutOfTurn => "the verb comes at the wrong time",
+        })
+    }
+}
+
+impl Error for Refusal {}
 
 /// Refuses a sheet that is empty or too long.
 pub fn check_sheet(sheet: &[u8]) -> Result<(), Refusal>

@@ -34,7 +34,7 @@ impl Verb {
     }
 }
 
-/// The verb of a line, and the columns after it.
+/// The verb of a line, and the columns after it: one pattern names the four bytes and what follows.
 #[tactic(auto, using(crate::proofs::Shown::front_is))]
 pub(crate) fn split_verb<'a>(line: &'a [u8]) -> Option<(Verb, &'a [u8])>
     ensures { Begins line.now result }

@@ -32,6 +32,7 @@ fn check<C: Code>(code: &C, allowance: usize, pages: usize) -> Result<(), Refusa
 }
 
 impl<C: Code + Drop> Bench<C> {
+    // The allowance and the page count stay apart, since each is refused as itself.
     /// A card of blank pages. Everything is allocated here: no later call wants memory.
     pub fn new(heap: Global, code: C, allowance: usize, pages: usize) -> Result<Bench<C>, Fault>
         ensures { MatchResult result (New C.Code.meaning code allowance pages) (NotMade (C.Code.meaning code) allowance pages) }

@@ -1,4 +1,4 @@
-// Floors and levels of single cells.
+// Floors and levels of single cells. A call's numbers stay apart, since each is refused as itself.
 ghost use Rattle.std.specs.Prelude.{◌≡◌, vec_len, MatchResult};
 ghost use Rattle.card.specs.Cells.{NoSpot, Spot, Floored, Worn, Drifted};
 

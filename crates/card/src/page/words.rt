@@ -1,5 +1,5 @@
 // Messages in a page.
-ghost use Rattle.std.specs.Prelude.{◌≡◌, false, ◌||◌, is_ok, IfOk};
+ghost use Rattle.std.specs.Prelude.{◌≡◌, ◌||◌, is_ok, IfOk};
 ghost use Rattle.masking.specs.Writing.{WrittenAs};
 ghost use Rattle.card.specs.Words.{Blank, FetchedAs};
 

@@ -4,12 +4,8 @@ use std::test::Fail;
 
 #[test]
 fn sixteen_symbols(rt: HostRuntime) -> Result<(), Fail> {
-    let Ok(field) = BinaryField::new(16) else {
-        return Err(Fail::new("no field"));
-    };
-    let Ok(residues) = Residues::new(16) else {
-        return Err(Fail::new("no residues"));
-    };
+    let field = BinaryField::new(16)?;
+    let residues = Residues::new(16)?;
     assert_eq!(rt; field.product(8, 2), 3);
     assert_eq!(rt; field.sum(17, 1), 0);
     assert_eq!(rt; field.negative(25), 9);
@@ -24,9 +20,7 @@ fn sixteen_symbols(rt: HostRuntime) -> Result<(), Fail> {
 
 #[test]
 fn three_symbols(rt: HostRuntime) -> Result<(), Fail> {
-    let Ok(field) = PrimeResidues::new(3) else {
-        return Err(Fail::new("no field"));
-    };
+    let field = PrimeResidues::new(3)?;
     assert_eq!(rt; field.sum(5, 4), 0);
     assert_eq!(rt; field.negative(4), 2);
     assert_eq!(rt; field.product(5, 5), 1);
