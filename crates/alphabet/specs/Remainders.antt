@@ -1,13 +1,31 @@
--- The remainders by q: that their products fit a byte, and their laws. Assumes nothing.
-use Rattle.std.specs.Prelude.{◌≡◌, ℕ, ◌+◌, ◌-◌, ◌*◌, ◌/◌, ◌%◌, ◌<◌, ◌≤◌}
+-- The remainders by q: how they are computed with few divisions, and their laws. Assumes nothing.
+use Rattle.std.specs.Prelude.{◌≡◌, ℕ, ◌+◌, ◌-◌, ◌*◌, ◌/◌, ◌%◌, ◌<◌, ◌≤◌, ◌≢◌}
 use Rattle.std.proofs.Common.{sym, ap, ◌∙◌, add_assoc, add_comm, add-mul, add-sub_of_le, add-zero, div-add-mod', le_of_lt, mod-eq_of_lt, mod-lt, mul-add, mul_assoc, mul_comm, mul-one, mul_right_comm, arith, Fits}
-use Rattle.std.proofs.Math.Nat.{add-mod, add-mod-mod, mod-add-mod, mod_self, mul-add-mod_self_right}
+use Rattle.std.proofs.Math.Nat.{add-mod, add-mod-mod, mod-add-mod, mod-eq-sub-mod, mod_self, mul-add-mod_self_right}
 use Rattle.std.proofs.Math.Facts.{Fits-below}
 use Rattle.std.specs.Int.{w8}
 use Rattle.std.proofs.lemmas.Nat.{mul-le}
 use Rattle.alphabet.specs.Arithmetic.{Lawful}
 use Rattle.alphabet.specs.Offers.{ResidueSize}
 use Rattle.alphabet.specs.Residue.{modulo}
+
+-- a number below q is its own remainder
+pub remainder_below : {q : ℕ} (a : ℕ) → a < q → a ≡ a % q
+remainder_below a h = sym (mod-eq_of_lt h)
+
+-- from a number below twice q, q is taken away once
+pub remainder_less_q : (q n : ℕ) → q ≤ n → n < 2 * q → n - q ≡ n % q
+remainder_less_q q n high low = let less : n - q < q = omega arith in remainder_below (n - q) less ∙ sym (mod-eq-sub-mod high)
+
+-- the negative of 0 is 0
+pub negative_zero : (q x : ℕ) {s : ℕ} → x ≡ s → x ≡ 0 → 0 ≡ (q - s) % q
+negative_zero q x {s} e zero = let h : q - s ≡ q = omega arith in sym (ap (λ n. n % q) h ∙ mod_self q)
+
+-- the negative of another symbol is what it lacks of q
+pub negative_rest : (q x : ℕ) {s : ℕ} → 0 < q → x ≡ s → (x ≢ 0) → q - x ≡ (q - s) % q
+negative_rest q x {s} pos e some =
+    let less : q - s < q = omega arith in
+    ap (λ n. q - n) e ∙ remainder_below (q - s) less
 
 -- the product of two symbols fits a byte
 pub product_fits : (q x y a b : ℕ) → ResidueSize q → x ≡ a % q → y ≡ b % q → Fits w8 (x * y)

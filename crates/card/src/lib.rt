@@ -6,6 +6,6 @@ mod faults;
 mod page;
 mod refusals;
 
-pub use cards::{Bench, Card, Service};
+pub use cards::{Bench, Benched, Card, Service, Serving};
 pub use faults::Fault;
 pub use refusals::Refusal;

@@ -1,5 +1,5 @@
 -- The Bare code over any alphabet is a lawful code. Assumes nothing.
-use Rattle.std.specs.Prelude.{◌≡◌, ℕ, ◌<◌, ◌≤◌, true, List, map, length, Some, Ok, Err, Result, ◌==◌, nat_lt, slice_index, refl}
+use Rattle.std.specs.Prelude.{◌≡◌, ℕ, ◌<◌, ◌≤◌, true, List, map, length, Some, None, Ok, Err, Result, ◌==◌, nat_lt, slice_index, refl}
 use Rattle.std.proofs.Common.{ap, sym, ◌∙◌, subst, inl, inr, ⊎_elim, arith}
 use Rattle.std.specs.Bool.{then_some}
 use Rattle.std.proofs.lemmas.List.{ext_get_or, length-map, get_or-map}
@@ -25,13 +25,17 @@ all_cells w =
     ∙ ap (λ (i : ℕ). slice_index w i) (get_or-range_with_len 0 (length w) k 0 inside ∙ omega arith))
 
 -- the information cell of an index is the cell of that index
-pub item_run : (n i : ℕ) → then_some (nat_lt i n) i ≡ item (from 0 n) i
-item_run n i =
+pub item_run : (n i : ℕ) → i < n → item (from 0 n) i ≡ Some i
+item_run n i h = slice_get-get_or (from 0 n) i 0 (omega (arith, length-range_with_len 0 n)) ∙ ap (λ k. Some k) (get_or-range_with_len 0 n i 0 h ∙ omega arith)
+
+pub item_past_run : (n i : ℕ) → n ≤ i → item (from 0 n) i ≡ None
+item_past_run n i h = slice_get_past (from 0 n) i (omega (arith, length-range_with_len 0 n))
+
+pub item_if_in_run : (n i : ℕ) → then_some (nat_lt i n) i ≡ item (from 0 n) i
+item_if_in_run n i =
     elim (cases_lt i n) [
-      | inl low ↦
-          ap (λ b. then_some b i) (lt-ltb i n low)
-          ∙ sym (slice_get-get_or (from 0 n) i 0 (omega (arith, length-range_with_len 0 n)) ∙ ap (λ k. Some k) (get_or-range_with_len 0 n i 0 low ∙ omega arith))
-      | inr high ↦ ap (λ b. then_some b i) (le-ltb i n high) ∙ sym (slice_get_past (from 0 n) i (omega (arith, length-range_with_len 0 n)))
+      | inl low ↦ ap (λ b. then_some b i) (lt-ltb i n low) ∙ sym (item_run n i low)
+      | inr high ↦ ap (λ b. then_some b i) (le-ltb i n high) ∙ sym (item_past_run n i high)
     ]
 
 module _ (m : Arithmetic) (laws : Lawful m) (n : ℕ) where

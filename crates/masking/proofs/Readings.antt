@@ -1,6 +1,7 @@
 -- What levels read as: one message at most, and the message that was written while few cells are wrong. Assumes nothing.
 use Rattle.std.proofs.Common.{◌≡◌, ℕ, ◌+◌, ◌≤◌, true, List, length, sym, refl, ap, ◌∙◌, subst, ⊎_elim, arith}
 use Rattle.code.specs.Words.{BlockCode, Word, Message, Carries, differences}
+use Rattle.code.specs.Calls.{Corrects}
 use Rattle.code.specs.Laws.{CodeLaws}
 use Rattle.code.specs.Differences.{differences_triangle, cases_word}
 use Rattle.masking.specs.Reading.{Reads}
@@ -38,3 +39,14 @@ module _ (code : BlockCode) (laws : CodeLaws code) where
       within = omega (arith, differences_triangle word levels carrier (whole ∙ sym fit.whole) (whole ∙ sym (laws.words carrier carrying.held).whole));
     },
   )
+
+  -- the code word that the levels were corrected to, and what it carries
+  pub reads_corrected : (levels word message : List ℕ) (count : ℕ) → Corrects code levels count word → Message code message → Carries code word message → Reads code levels count message
+  reads_corrected levels word message count corrects symbols carrying = record {
+    fit = corrects.fit;
+    carrier = word;
+    carrying = carrying;
+    symbols = symbols;
+    near = corrects.near;
+    within = corrects.within;
+  }
