@@ -4,9 +4,11 @@ use Rattle.alphabet.specs.declared.refusals.Refusal as choice
 use Rattle.alphabet.specs.Refusals as choice-refusals
 use Rattle.code.specs.Words.{BlockCode}
 use Rattle.masking.specs.declared.refusals.Refusal.{Refusal}
+use Rattle.masking.specs.declared.refusals.Refusal.TheVariants.{Coding}
 use Rattle.masking.specs.Refusals.{number}
 use Rattle.masking.specs.Reading.{ReadAs}
 use Rattle.catalog.specs.Offers.{Chosen}
+use Rattle.catalog.specs.declared.wanted.Wanted.{Wanted}
 
 -- the answer for what a read answers
 abbrev pub told : Result ℕ Refusal → ℕ
@@ -25,3 +27,11 @@ Heard (Err refusal) levels before r after = (r ≡ 100 + choice-refusals.number 
 -- the length of the page's code is the number of its levels
 abbrev pub Handset : (alphabet code q : ℕ) (levels before : List ℕ) → ℕ → List ℕ → Type 0
 Handset alphabet code q levels before r after = (choice : Result BlockCode choice.Refusal) × Chosen alphabet code q (length levels) choice × Heard choice levels before r after
+
+-- a page of the code that is chosen is read, or the choice is refused and the buffer left as it was
+abbrev pub ReadOf : Result BlockCode choice.Refusal → (levels before : List ℕ) → Result ℕ Refusal → List ℕ → Type 0
+ReadOf (Ok code) levels before answer after = ReadAs code levels before answer after
+ReadOf (Err refusal) levels before answer after = (answer ≡ Err (Coding refusal)) × (after ≡ before)
+
+abbrev pub ReadWanted : Wanted → (levels before : List ℕ) → Result ℕ Refusal → List ℕ → Type 0
+ReadWanted wanted levels before answer after = (choice : Result BlockCode choice.Refusal) × Chosen wanted.alphabet wanted.code wanted.q wanted.n choice × ReadOf choice levels before answer after

@@ -1,11 +1,12 @@
 // One call that reads a page: the handset knows the code and the levels, and no floor. `handset_c` exports it to C.
 #![tactic(auto)]
 
-ghost use Rattle.handset.specs.Answers.{ReadBy, Handset};
+ghost use Rattle.handset.specs.Answers.{Handset, ReadWanted};
+ghost use Rattle.masking.specs.Reading.{ReadAs};
 
 use catalog::{Wanted, with_code};
 use code::Code;
-use masking::read;
+use masking::{Refusal, read};
 use report::Report;
 
 /// A refusal is answered as its number above this, since C takes one number for both.
@@ -23,19 +24,24 @@ pub fn handset_read(alphabet: u32, code: u32, q: u32, levels: &[u8], message: &m
         q: q as usize,
         n: levels.len(),
     };
-    match wanted.choose() {
-        Ok(chosen) => with_code!(&chosen, code => answer(code, levels, message)),
-        // as in `answer`: a function for both would ask for a bound on a refusal's number
+    match read_wanted(&wanted, levels, message) {
+        Ok(corrected) => corrected,
         Err(refusal) => REFUSED + refusal.number() as u32,
     }
 }
 
-/// What a handset is answered for one code.
-fn answer<C: Code>(code: &C, levels: &[u8], message: &mut [u8]) -> u32
-    ensures { ReadBy (C.Code.meaning code.now) levels.now message.old result message.new }
+/// Reads a page of the code that is wanted.
+fn read_wanted(wanted: &Wanted, levels: &[u8], message: &mut [u8]) -> Result<u32, Refusal>
+    ensures { ReadWanted wanted.now levels.now message.old result message.new }
 {
-    match read(code, levels, message) {
-        Ok(corrected) => corrected as u32,
-        Err(refusal) => REFUSED + refusal.number() as u32,
-    }
+    let chosen = wanted.choose()?;
+    with_code!(&chosen, code => read_page(code, levels, message))
+}
+
+/// Reads a page of one code. No more cells are corrected than a word has.
+fn read_page<C: Code>(code: &C, levels: &[u8], message: &mut [u8]) -> Result<u32, Refusal>
+    ensures { ReadAs (C.Code.meaning code.now) levels.now message.old result message.new }
+{
+    let corrected = read(code, levels, message)?;
+    Ok(corrected as u32)
 }
