@@ -1,6 +1,8 @@
 -- A save's symbols taken off its columns one after another.
-use Rattle.std.proofs.Common.{◌≡◌, ℕ, ◌+◌, ◌*◌, ◌<◌, ◌≤◌, min, List, [], ◌∷◌, ◌++◌, map, length, take, drop, sym, refl, ap, ◌∙◌, subst, ⊎_elim, arith, length-drop, length-take}
+use Rattle.std.proofs.Common.{◌≡◌, ℕ, ◌+◌, ◌*◌, ◌<◌, ◌≤◌, List, [], ◌∷◌, ◌++◌, map, length, take, drop, Ok, Err, Result, sym, refl, ap, ◌∙◌, subst, ⊎_elim, arith, length-drop, length-take}
 use Rattle.std.proofs.lemmas.List.{map_push, length_push, length-map}
+use native.Mathlib.Nat.{min-eq_left, min-eq_right}
+use Rattle.std.specs.Result.{OkIff, result_unwrap_or}
 use Rattle.std.proofs.lemmas.Bool.{cases_lt}
 use Rattle.sheet.specs.Fields.{Shows, IllFormed}
 use Rattle.sheet.specs.Parsing.{BeginWith}
@@ -20,6 +22,11 @@ pub record Sofar (columns rest bytes : List ℕ) : Type 0 where
 pub none_yet : (columns bytes : List ℕ) → bytes ≡ [] → Sofar columns columns bytes
 none_yet columns bytes none = record { message = []; begins = tt; left = refl; shown = none; inside = omega arith }
 
+-- a number as a byte, or where it is too high for one the highest
+pub byte_capped : {E : Type 0} (r : Result ℕ E) (v : ℕ) → OkIff r (v < 256) v → result_unwrap_or r 255 ≡ capped v
+byte_capped (Ok b) v h = h.1 ∙ sym (min-eq_left (omega (arith, h.0)))
+byte_capped (Err e) v h = sym (min-eq_right (omega (arith, h)))
+
 -- another field is there
 longer : (columns rest : List ℕ) (count value : ℕ) → rest ≡ drop (4 * count) columns → Shows (take 4 rest) value → 4 * count ≤ length columns → 4 * (count + 1) ≤ length columns
 longer columns rest count value left shows inside = omega (arith, shown_long (take 4 rest) value shows, length-take 4 rest, ap length left, length-drop (4 * count) columns)
@@ -29,7 +36,7 @@ pub room_there : (columns rest bytes : List ℕ) (value : ℕ) → Sofar columns
 room_there columns rest bytes value so whole shows =
     omega (arith, longer columns rest (length so.message) value so.left shows so.inside, whole.2, ap length so.shown, length-map so.message capped)
 
-pub one_more : (columns rest more bytes bytes' : List ℕ) (value byte : ℕ) → Sofar columns rest bytes → Shows (take 4 rest) value × (more ≡ drop 4 rest) → byte ≡ min value 255 → bytes' ≡ bytes ++ byte ∷ [] → Sofar columns more bytes'
+pub one_more : (columns rest more bytes bytes' : List ℕ) (value byte : ℕ) → Sofar columns rest bytes → Shows (take 4 rest) value × (more ≡ drop 4 rest) → byte ≡ capped value → bytes' ≡ bytes ++ byte ∷ [] → Sofar columns more bytes'
 one_more columns rest more bytes bytes' value byte so taken is w =
     let count : length (so.message ++ value ∷ []) ≡ length so.message + 1 = length_push so.message value in
     record {

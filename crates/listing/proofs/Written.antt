@@ -1,7 +1,9 @@
 -- Fields and rows written one after another.
 use Rattle.std.proofs.Common.{◌≡◌, ℕ, zero, suc, ◌+◌, ◌<◌, List, [], ◌∷◌, ◌++◌, length, get_or, take, is_ok, if◌then◌else◌, IfOk, OnOk, Ok, Err, Result, sym, refl, ap, ◌∙◌, append_assoc, append-nil, arith}
 use Rattle.std.proofs.lemmas.List.{take_more}
-use Rattle.listing.specs.Rows.{field, columns, AllFit}
+use Rattle.sheet.specs.Fields.{digits, pad_to}
+use Rattle.ledger.specs.Ledger.{Answer}
+use Rattle.listing.specs.Rows.{field, line_number, columns, fields, row, AllFit}
 
 -- bytes that are appended where there is memory
 pub appended : {V E : Type 0} (r : Result V E) (was out part bytes : List ℕ) → out ≡ (if is_ok r then was ++ part else was) → part ≡ bytes → OnOk r (out ≡ was ++ bytes)
@@ -17,6 +19,13 @@ pub one_put : (was out out' xs : List ℕ) (i v : ℕ) → i < length xs → v �
 one_put was out out' xs i v l is so w =
     w ∙ ap (λ k. k ++ field v) so ∙ append_assoc was (columns (take i xs)) (field v)
     ∙ ap (λ k. was ++ k) (sym (columns_push (take i xs) v) ∙ ap (λ x. columns (take i xs ++ x ∷ [])) is ∙ ap columns (sym (take_more xs i 0 l)))
+
+-- a row by its parts
+pub row_put : (was numbered filled out : List ℕ) (n : ℕ) (a : Answer) → numbered ≡ was ++ pad_to 6 (digits n) → filled ≡ numbered ++ columns (fields a) → out ≡ filled ++ 10 ∷ [] → out ≡ was ++ row n a
+unfolding line_number
+row_put was numbered filled out n a en ef eo =
+    eo ∙ ap (λ k. k ++ 10 ∷ []) (ef ∙ ap (λ k. k ++ columns (fields a)) en)
+    ∙ append_assoc (was ++ line_number n) (columns (fields a)) (10 ∷ []) ∙ append_assoc was (line_number n) (columns (fields a) ++ 10 ∷ [])
 
 -- a number of a list that fits
 pub fits_at : (xs : List ℕ) (i : ℕ) → AllFit xs → i < length xs → get_or xs i 0 < 10000

@@ -6,7 +6,7 @@ use arrayvec::ArrayVec;
 use runs::Request;
 use sheet::{Line, parse, take_field};
 
-/// The most symbols in a line: fewer than a line has fields.
+/// A bound on the symbols in a line: a line has fewer than so many fields.
 const MOST_SYMBOLS: usize = 256;
 
 /// The symbols of a save, each in a byte.
@@ -20,8 +20,9 @@ fn read_symbols(columns: &[u8], symbols: &mut Symbols)
     ensures { SymbolsShown columns.now symbols.new.items }
 {
     let mut rest = columns;
+    // Each step takes a field of four columns off the rest, so nothing is counted.
     while let Some((value, more)) = take_field(rest) {
-        symbols.push(value.min(u16::from(u8::MAX)) as u8);
+        symbols.push(u8::try_from(value).unwrap_or(u8::MAX));
         rest = more;
     }
 }

@@ -1,7 +1,7 @@
 // The lines of a listing as bytes.
-ghost use Rattle.std.specs.Prelude.{◌≡◌, ◌<◌, ◌≤◌, ◌++◌, length, replicate, OnOk};
+ghost use Rattle.std.specs.Prelude.{◌≡◌, ◌^◌, ◌<◌, ◌≤◌, ◌++◌, length, replicate, OnOk};
 ghost use Rattle.sheet.specs.Fields.{digits, pad_to};
-ghost use Rattle.listing.specs.Rows.{field as shown-field, line_number, columns as shown-columns, fields as shown_fields, row as shown-row, AllFit, Fits};
+ghost use Rattle.listing.specs.Rows.{columns as shown-columns, fields as shown_fields, row as shown-row, AllFit, Fits};
 ghost use Rattle.listing.specs.Told.{granted, told};
 
 use super::refusals::Told;
@@ -31,23 +31,14 @@ fn justify(columns: &mut [u8], number: usize)
     }
 }
 
-/// Puts the number of a line.
-fn put_line_number(out: &mut Vec<u8>, number: usize) -> Result<(), AllocError>
-    requires { number < 1000000 }
-    ensures { OnOk result (out.new.items ≡ out.old.items ++ line_number number) }
+/// Puts a number at the right end of N columns.
+fn put_number<const N: usize>(out: &mut Vec<u8>, number: usize) -> Result<(), AllocError>
+    requires short { N < 2 ^ 63 }
+    requires fits { length (digits number) ≤ N }
+    ensures { OnOk result (out.new.items ≡ out.old.items ++ pad_to N (digits number)) }
 {
-    let mut columns = [b' '; LINE_NUMBER];
+    let mut columns = [b' '; N];
     justify(&mut columns, number);
-    out.extend_from_slice(&columns)
-}
-
-/// Puts a field.
-fn put_field(out: &mut Vec<u8>, value: usize) -> Result<(), AllocError>
-    requires { value < 10000 }
-    ensures { OnOk result (out.new.items ≡ out.old.items ++ shown-field value) }
-{
-    let mut columns = [b' '; FIELD];
-    justify(&mut columns, value);
     out.extend_from_slice(&columns)
 }
 
@@ -57,7 +48,7 @@ fn put_fields(out: &mut Vec<u8>, fields: &[usize]) -> Result<(), AllocError>
     ensures { OnOk result (out.new.items ≡ out.old.items ++ shown-columns fields.now) }
 {
     for value in fields {
-        put_field(out, *value)?;
+        put_number::<FIELD>(out, *value)?;
     }
     Ok(())
 }
@@ -69,7 +60,7 @@ fn put_symbols(out: &mut Vec<u8>, symbols: &[u8]) -> Result<(), AllocError>
     ensures { OnOk result (out.new.items ≡ out.old.items ++ shown-columns symbols.now) }
 {
     for symbol in symbols {
-        put_field(out, usize::from(*symbol))?;
+        put_number::<FIELD>(out, usize::from(*symbol))?;
     }
     Ok(())
 }
@@ -109,7 +100,7 @@ pub(crate) fn write_row(out: &mut Vec<u8>, number: usize, answer: &Told) -> Resu
     requires fits { Fits (told answer.now) }
     ensures { OnOk result (out.new.items ≡ out.old.items ++ shown-row number (told answer.now)) }
 {
-    put_line_number(out, number)?;
+    put_number::<LINE_NUMBER>(out, number)?;
     put_told(out, answer)?;
     out.push(b'\n')?;
     Ok(())

@@ -41,8 +41,7 @@ impl<'a> Run<'a> {
     pub(crate) fn line(&self) -> Option<&'a [u8]>
         ensures { FirstLine self.now result }
     {
-        let (first, _) = self.lines.split_first()?;
-        Some(first)
+        self.lines.first().copied()
     }
 
     /// Tells it this, and goes to the line after it.

@@ -1,6 +1,6 @@
-use Rattle.std.proofs.Common.{min, length, ap, ◌∙◌, arith, length-drop, length-take, rules}
+use Rattle.std.proofs.Common.{length, ap, ◌∙◌, arith, length-drop, length-take, rules}
 use Rattle.sheet.proofs.Shown.{shown_long}
-use Rattle.listing.proofs.Symbols.{none_yet, room_there, one_more, all_taken}
+use Rattle.listing.proofs.Symbols.{none_yet, byte_capped, room_there, one_more, all_taken}
 use Rattle.listing.proofs.requests.read_symbols.Goals as goal
 
 pub loop-value-init : goal.loop-value-init
@@ -11,7 +11,7 @@ push-requires c = let room = room_there _ _ _ _ c.loop-value.invariant c.require
 
 pub loop-value-preserved : goal.loop-value-preserved
 loop-value-preserved c =
-    one_more _ c.loop-value.rest.now _ _ _ c.in-Some.value _ c.loop-value.invariant c.in-Some.ensures (c.min.ensures ∙ ap (λ m. min c.in-Some.value m) c.from.ensures) c.push.ensures.items
+    one_more _ c.loop-value.rest.now _ _ _ c.in-Some.value _ c.loop-value.invariant c.in-Some.ensures (c.unwrap_or.ensures ∙ byte_capped c.try_from.result c.in-Some.value c.try_from.ensures) c.push.ensures.items
 
 pub loop-value-smaller : goal.loop-value-smaller
 loop-value-smaller c =
