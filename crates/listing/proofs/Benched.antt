@@ -1,6 +1,9 @@
 -- A line's turn at the bench: what its parsing and its floor give is what the card is held to.
-use Rattle.std.proofs.Common.{◌≡◌, ℕ, List, [], ◌∷◌, Ok, sym, refl, subst, ⊎_elim}
+use Rattle.std.proofs.Common.{◌≡◌, ℕ, Bool, true, false, List, [], ◌∷◌, Ok, Err, Result, sym, refl, ap, subst, ⊎_elim}
+use Rattle.std.specs.Bool.{beq}
+use Rattle.std.specs.Result.{MatchResult, IsOkAnd, result_eq}
 use Rattle.code.specs.Words.{BlockCode}
+use Rattle.code.specs.Laws.{CodeLaws}
 use Rattle.sheet.specs.declared.refusals.Refusal.{Refusal}
 use Rattle.sheet.specs.declared.refusals.Refusal.TheVariants.{OutOfTurn}
 use Rattle.sheet.specs.declared.parsing.Line.{Line}
@@ -8,9 +11,32 @@ use Rattle.sheet.specs.declared.parsing.Line.TheVariants.{Floor, Open}
 use Rattle.sheet.specs.Parsing.{Parsed}
 use Rattle.ledger.specs.Ledger.{Made, floor, Answer, done}
 use Rattle.card.specs.History.{BenchContinues}
-use Rattle.listing.specs.Told.{form_refusal}
+use Rattle.runs.specs.declared.replies.Reply.{Reply}
+use Rattle.runs.specs.declared.replies.Reply.TheVariants.{Done}
+use Rattle.listing.specs.declared.refusals.Refusal as listing
+use Rattle.listing.specs.declared.run.Run.{Run}
+use Rattle.listing.specs.Rows.{Fits}
+use Rattle.listing.specs.Told.{form_refusal, told}
 use Rattle.listing.specs.Turns.{Stage, at_bench, in_service, ForBench, Turn, ill_formed, untimely, floored, opened}
-use Rattle.listing.specs.Serving.{Bench, Refuses, AtTheBench, AtItsOpening, Goes}
+use Rattle.listing.specs.Serving.{Bench, Refuses, AtTheBench, AtItsOpening, Goes, InUse, ListedLines, BenchLine}
+use Rattle.listing.proofs.Fitting.{done_fits}
+use Rattle.listing.proofs.Gathered.{bench_sound, line_fits}
+
+-- what a line at the bench is told: that it is done, or its refusal
+abbrev pub done_or_refused : Result Bool listing.Refusal → Answer
+done_or_refused (Ok opens) = done
+done_or_refused (Err e) = told (Err e)
+
+pub told_done : (r : Result Bool listing.Refusal) (answer : Result Reply listing.Refusal) (P : Bool → Reply → Type 0) → MatchResult r (λ x. IsOkAnd answer (P x)) (λ e. answer ≡ Err e) → ((x : Bool) (y : Reply) → P x y → y ≡ Done) → told answer ≡ done_or_refused r
+told_done (Ok x) (Ok y) P h f = ap (λ k. told (Ok k)) (f x y h)
+told_done (Ok x) (Err e) P h f = absurd h
+told_done (Err e) answer P h f = ap told h
+
+-- a line that asks for the opening
+pub asks_opening : (eq : listing.Refusal → listing.Refusal → Bool) (r : Result Bool listing.Refusal) → result_eq beq eq r (Ok true) ≡ true → r ≡ Ok true
+asks_opening eq (Ok true) is = refl
+asks_opening eq (Ok false) is = absurd cc
+asks_opening eq (Err e) is = absurd cc
 
 module _ {C : Type 0} (meaning : C → BlockCode) where
   late_benched : (b : Bench C) (line : List ℕ) (x : Line) → Parsed line (Ok x) → (ForBench x → ⊥) → Goes (AtTheBench meaning) b line (form_refusal OutOfTurn) b
@@ -32,3 +58,13 @@ module _ {C : Type 0} (meaning : C → BlockCode) where
   pub open_benched : (b b' : Bench C) (line : List ℕ) → Parsed line (Ok Open) × (b' ≡ b) → (made : Made) (stage : Stage) → AtTheBench meaning made stage b → (stage' : Stage) × Turn made stage line done stage' × AtItsOpening meaning made stage' b'
   open_benched b b' line asked made (at_bench past) at = (in_service past [], opened past line asked.0, (refl, subst (AtTheBench meaning made (at_bench past)) (sym asked.1) at))
   open_benched b b' line asked made (in_service bench past) at = absurd at
+
+  -- another line is told what it goes by
+  pub other_benched : (eq : listing.Refusal → listing.Refusal → Bool) (b b' : Bench C) (line : List ℕ) (r : Result Bool listing.Refusal) → result_eq beq eq r (Ok true) ≡ false → BenchLine meaning b line r b' → Goes (AtTheBench meaning) b line (done_or_refused r) b'
+  other_benched eq b b' line (Ok true) is h = absurd cc
+  other_benched eq b b' line (Ok false) is h = h
+  other_benched eq b b' line (Err e) is h = h
+
+  pub bench_fits : (lawful : (c : C) → CodeLaws (meaning c)) (b b' b'' : Bench C) (before run : Run) (line : List ℕ) (r : Result Bool listing.Refusal) → InUse (AtTheBench meaning) b → ListedLines (AtTheBench meaning) (AtTheBench meaning) b before b' run → BenchLine meaning b' line r b'' → Fits (done_or_refused r)
+  bench_fits lawful b b' b'' before run line (Ok opens) used so h = done_fits
+  bench_fits lawful b b' b'' before run line (Err e) used so h = line_fits (AtTheBench meaning) (bench_sound meaning lawful) b b' b'' before run line (told (Err e)) used so h

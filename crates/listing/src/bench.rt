@@ -1,5 +1,5 @@
 // The lines of a sheet whose card is at the bench.
-ghost use Rattle.std.specs.Prelude.{OnOk, IfOk};
+ghost use Rattle.std.specs.Prelude.{IfOk};
 ghost use Rattle.listing.specs.Serving.{AtTheBench, InUse, FloorAsked, BenchLine, BenchLines};
 
 use super::refusals::Refusal;
@@ -45,14 +45,11 @@ pub(crate) fn bench_lines<C: Code>(
     ensures { IfOk result (λ opened. BenchLines C.Code.meaning card.old run.old opened card.new run.new) }
 {
     while let Some(line) = run.line() {
-        match bench_line(card, line) {
-            Ok(opens) => {
-                run.tell(Ok(Reply::Done))?;
-                if opens {
-                    return Ok(true);
-                }
-            }
-            Err(refusal) => run.tell(Err(refusal))?,
+        let told = bench_line(card, line);
+        let opens = told == Ok(true);
+        run.tell(told.map(|_| Reply::Done))?;
+        if opens {
+            return Ok(true);
         }
     }
     Ok(false)

@@ -1,5 +1,5 @@
 // The calls that the lines of a sheet make of a card in service.
-ghost use Rattle.std.specs.Prelude.{◌≡◌, [], IfOk};
+ghost use Rattle.std.specs.Prelude.{◌≡◌, []};
 ghost use Rattle.listing.specs.Serving.{SymbolsShown, WholeFields, RequestAsked};
 
 use arrayvec::ArrayVec;
