@@ -7,7 +7,6 @@ use Rattle.alphabet.specs.declared.refusals.Refusal.TheVariants.{NotOffered}
 use Rattle.code.specs.Words.{BlockCode}
 use Rattle.catalog.specs.declared.kinds.AlphabetKind.{AlphabetKind}
 use Rattle.catalog.specs.declared.kinds.CodeKind.{CodeKind}
-use Rattle.catalog.specs.Kinds.{code_of}
 use Rattle.catalog.specs.Offers.{Offer, no_size, no_bare_length, bare_code, no_plane_length, plane_code, Chosen, no_alphabet_kind, no_code_kind, of_kinds}
 use Rattle.sheet.specs.declared.parsing.Line.{Line}
 use Rattle.sheet.specs.declared.parsing.Line.TheVariants.{Card, Floor, Worn, Move, Open, Read, Same, Save}
@@ -15,11 +14,10 @@ use Rattle.sheet.specs.Parsing.{BeginWith, Parsed}
 use Rattle.sheet.proofs.Shown.{shown_small}
 use Rattle.ledger.specs.Ledger.{Answer}
 use Rattle.listing.specs.declared.run.Run.{Run}
-use Rattle.listing.specs.declared.terms.Asked.{Asked}
 use Rattle.listing.specs.Rows.{Fits}
 use Rattle.listing.specs.Telling.{to_come, FirstLine, Tells}
 use Rattle.listing.specs.Listing.{choice_refusal, AsksForCard, SheetTold}
-use Rattle.listing.specs.Sheets.{CardAsked, CardListed, SheetListed}
+use Rattle.listing.specs.Sheets.{SheetListed}
 use Rattle.listing.proofs.Fitting.{refusal_fits}
 use Rattle.listing.proofs.Gathered.{listed_one}
 
@@ -72,7 +70,3 @@ no_card (Save page symbols) h asks = asks
 -- a first line that is told just this
 pub one_told : (first : Bor (List ℕ)) (a : Answer) (before after : Run) → FirstLine before (Some first) → ((lines : List (List ℕ)) → SheetTold (first.now ∷ lines) (a ∷ [])) → Fits a → Tells before a after → SheetListed before after
 one_told first a before after is told f tells = record { answers = a ∷ []; told = subst (λ k. SheetTold k (a ∷ [])) (sym is) (told (drop 1 (to_come before))); listed = listed_one before after a f tells }
-
--- a first line that asks for a card
-pub card_told : (first : Bor (List ℕ)) (asked : Asked) (before after : Run) → FirstLine before (Some first) → CardAsked first.now (Ok asked) → CardListed (code_of asked.code) asked.terms.allowance asked.terms.pages before after → SheetListed before after
-card_told first asked before after is asks h = record { answers = h.answers; told = subst (λ k. SheetTold k h.answers) (sym is) (asks (drop 1 (to_come before)) h.answers h.told); listed = h.listed }

@@ -1,8 +1,7 @@
 // The listing of a sheet.
 ghost use Rattle.std.specs.Prelude.{◌<◌, length, IfOk, OnOk};
-ghost use Rattle.catalog.specs.Kinds.{code_of};
 ghost use Rattle.listing.specs.Listing.{Listing};
-ghost use Rattle.listing.specs.Sheets.{CardAsked, CardListed, SheetListed};
+ghost use Rattle.listing.specs.Sheets.{CardAsked, SheetListed};
 
 use super::cards::list_card;
 use super::refusals::Refusal;
@@ -40,7 +39,7 @@ fn list_lines(heap: Global, run: &mut Run<'_>) -> Result<(), AllocError>
         return Ok(());
     };
     match card_asked(first) {
-        Ok(asked) => list_asked(heap, asked, run),
+        Ok(Asked { code, terms }) => with_code!(code, code => list_card(heap, code, terms, run)),
         Err(refusal) => run.tell(Err(refusal)),
     }
 }
@@ -73,13 +72,4 @@ fn card_asked(first: &[u8]) -> Result<Asked, Refusal>
         }
         _ => Err(Refusal::Sheet(sheet::Refusal::OutOfTurn)),
     }
-}
-
-/// Lists a sheet whose first line asks for this card.
-fn list_asked(heap: Global, asked: Asked, run: &mut Run<'_>) -> Result<(), AllocError>
-    requires { 0 < length run.old.lines.now }
-    ensures { OnOk result (CardListed (code_of asked.code) asked.terms.allowance asked.terms.pages run.old run.new) }
-{
-    let Asked { code, terms } = asked;
-    with_code!(code, code => list_card(heap, code, terms, run))
 }

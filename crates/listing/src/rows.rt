@@ -17,7 +17,8 @@ const LINE_NUMBER: usize = 6;
 const GRANTED: usize = 0;
 
 /// Puts a number at the right end of columns that hold spaces.
-// No loop over `iter_mut().rev()`: after it a proof knows nothing of what the columns hold.
+// No loop over `iter_mut().rev()`: its invariant has no name for the columns, and after it a proof knows only how many they are.
+// No `write!` into a `String`: a field took three times as long.
 fn justify(columns: &mut [u8], number: usize)
     requires spaces { columns.old ≡ replicate (length columns.old) 32 }
     requires fits { length (digits number) ≤ length columns.old }

@@ -45,6 +45,7 @@ impl<'a> Run<'a> {
     }
 
     /// Tells it this, and goes to the line after it.
+    // Callers that list a first line ask `some` too: a run that has told its last line is a run still, so no field holds it.
     pub(crate) fn tell(&mut self, answer: Told) -> Result<(), AllocError>
         requires some { 0 < length self.old.lines.now }
         requires fits { Fits (told answer) }
