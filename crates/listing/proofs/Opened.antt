@@ -1,5 +1,5 @@
 -- From the bench into service: the lines before the opening and those after it are the lines of one card.
-use Rattle.std.proofs.Common.{◌≡◌, ℕ, List, [], ◌∷◌, ◌++◌, length, true, false, sym, ap, ◌∙◌, subst, append-nil}
+use Rattle.std.proofs.Common.{◌≡◌, ℕ, List, [], ◌∷◌, ◌++◌, length, true, sym, ap, ◌∙◌, subst, append-nil}
 use Rattle.code.specs.Words.{BlockCode, rest}
 use Rattle.code.specs.Laws.{CodeLaws}
 use Rattle.ledger.specs.Ledger as ledger
@@ -7,9 +7,9 @@ use Rattle.ledger.specs.Ledger.{Made, BenchCall, Answer, AtBench, InService}
 use Rattle.card.specs.History.{CardShows}
 use Rattle.listing.specs.declared.run.Run.{Run}
 use Rattle.listing.specs.Turns.{Stage, at_bench, in_service, Turns}
-use Rattle.listing.specs.Serving.{Bench, Service, AtTheBench, AtItsOpening, AtService, InUse, AllListed, BenchLines}
+use Rattle.listing.specs.Serving.{Bench, Service, AtTheBench, AtItsOpening, AtService, AllListed, BenchLines}
 use Rattle.listing.specs.Sheets.{OthersListed}
-use Rattle.listing.proofs.Gathered.{listed_append, service_sound, bench_sound}
+use Rattle.listing.proofs.Gathered.{listed_append, service_sound}
 
 turns_append : (made : Made) (s t u : Stage) (xs ys : List (List ℕ)) (given later : List Answer) → Turns made s xs given t → Turns made t ys later u → Turns made s (xs ++ ys) (given ++ later) u
 turns_append made s t u [] ys [] later h k = subst (λ z. Turns made z ys later u) (sym h) k

@@ -1,5 +1,5 @@
 -- Fields and rows written one after another.
-use Rattle.std.proofs.Common.{◌≡◌, ℕ, zero, suc, ◌+◌, ◌<◌, List, [], ◌∷◌, ◌++◌, length, get_or, take, is_ok, if◌then◌else◌, IfOk, OnOk, Ok, Err, Result, sym, refl, ap, ◌∙◌, append_assoc, append-nil, arith}
+use Rattle.std.proofs.Common.{◌≡◌, ℕ, zero, suc, ◌+◌, ◌<◌, List, [], ◌∷◌, ◌++◌, length, get_or, take, is_ok, if◌then◌else◌, OnOk, Ok, Err, Result, sym, ap, ◌∙◌, append_assoc, append-nil, arith}
 use Rattle.std.proofs.lemmas.List.{take_more}
 use Rattle.sheet.specs.Fields.{digits, pad_to}
 use Rattle.ledger.specs.Ledger.{Answer}
