@@ -7,7 +7,7 @@ use Rattle.ledger.specs.Ledger.{Made, BenchCall, Answer, AtBench, InService}
 use Rattle.card.specs.History.{CardShows}
 use Rattle.listing.specs.declared.run.Run.{Run}
 use Rattle.listing.specs.Turns.{Stage, at_bench, in_service, Turns}
-use Rattle.listing.specs.Serving.{Bench, Service, AtTheBench, AtItsOpening, AtService, AllListed, BenchLines}
+use Rattle.listing.specs.Serving.{Bench, Service, AtTheBench, AtItsOpening, AtService, InUse, AllListed, BenchLines}
 use Rattle.listing.specs.Sheets.{OthersListed}
 use Rattle.listing.proofs.Gathered.{listed_append, service_sound}
 
@@ -35,6 +35,12 @@ module _ {C : Type 0} (meaning : C → BlockCode) where
   room_made : (room : ℕ) (b : Bench C) (made : Made) (stage : Stage) → room ≡ length (rest (meaning b.code).information) → AtTheBench meaning made stage b → room ≡ length (rest made.code.information)
   room_made room b made (at_bench past) e at = e ∙ ap (λ code. length (rest code.information)) at.2.coded
   room_made room b made (in_service bench past) e at = absurd at
+
+  -- some history led to the card that a line opened
+  pub opened_in_use : (room : ℕ) (b b' : Bench C) (s : Service C) (before between : Run) → InUse (AtTheBench meaning) b → room ≡ length (rest (meaning b.code).information) → BenchLines meaning b before true b' between → Opens b' s → InUse (AtService meaning room) s
+  opened_in_use room b b' s before between used e h opens =
+      let then = h.goes used.made used.stage used.led in
+      record { made = used.made; stage = then.0; led = serving room b' s used.made then.0 opens (room_made room b used.made used.stage e used.led) then.2 }
 
   module _ (lawful : (c : C) → CodeLaws (meaning c)) where
     -- a line opens the card, and the others are served
