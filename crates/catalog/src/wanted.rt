@@ -44,6 +44,7 @@ impl fmt::Display for Wanted {
     fn fmt<W: fmt::Write>(&self, f: &mut fmt::Formatter<W>) -> fmt::Result {
         let q = self.q;
         let n = self.n;
+        // by number, since a number of no kind is printed too
         match self.alphabet {
             AlphabetKind::RESIDUES => write!(f, "residues of {q}, ")?,
             AlphabetKind::BINARY => write!(f, "binary field of {q}, ")?,
@@ -57,6 +58,7 @@ impl fmt::Display for Wanted {
     }
 }
 
+// A function for each kind of code, since each has its own rule on lengths.
 fn choose_bare(alphabet: AlphabetKind, q: usize, n: usize) -> Result<AnyCode, Refusal>
     ensures { Offer alphabet q n kind.Bare (meaning_of result) }
 {

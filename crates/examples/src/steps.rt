@@ -12,7 +12,7 @@ pub const BARE_OF_THREE: Wanted = Wanted {
     n: 5,
 };
 
-/// The smallest Plane.
+/// The smallest Plane. `cardlife` names it too: programs share the library alone.
 pub const PLANE_OF_THREE: Wanted = Wanted {
     code: CodeKind::PLANE,
     n: 9,

@@ -1,4 +1,4 @@
-// The one call that C links: the handset's read, under its C name.
+// The one call that C links: the handset's read, under its C name. A crate is a library or one for C to link, so it stands twice.
 #![tactic(auto)]
 
 ghost use Rattle.handset.specs.Answers.{Handset};

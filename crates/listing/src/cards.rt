@@ -31,6 +31,7 @@ pub(crate) fn list_card<C: Code + Drop>(
             run.tell(Ok(Reply::Done))?;
             list_others(heap, bench, room, run)
         }
+        // listed, where `?` would answer it
         Err(Fault::Asked { refusal }) => run.tell(Err(Refusal::Card(refusal))),
         Err(Fault::Memory) => Err(AllocError),
     }

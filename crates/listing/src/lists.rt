@@ -19,6 +19,7 @@ const NO_LINE: usize = 0;
 pub fn list(heap: Global, sheet: &[u8]) -> Result<Vec<u8>, AllocError>
     ensures { IfOk result (λ v. Listing sheet.now v.items) }
 {
+    // listed, where `?` would answer it
     if let Err(refusal) = check_sheet(sheet) {
         let mut rows = Vec::new(heap);
         write_row(&mut rows, NO_LINE, &Err(Refusal::Sheet(refusal)))?;
@@ -40,6 +41,7 @@ fn list_lines(heap: Global, run: &mut Run<'_>) -> Result<(), AllocError>
     };
     match card_asked(first) {
         Ok(Asked { code, terms }) => with_code!(code, code => list_card(heap, code, terms, run)),
+        // listed, where `?` would answer it
         Err(refusal) => run.tell(Err(refusal)),
     }
 }

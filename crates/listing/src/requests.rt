@@ -27,6 +27,7 @@ fn read_symbols(columns: &[u8], symbols: &mut Symbols)
     }
 }
 
+// A line's numbers have four columns and a call's any size, so they are of two types.
 /// The call of a line in service. A save's symbols are kept beside it, and a read has room for so many.
 pub(crate) fn request_of<'a>(
     line: &[u8],

@@ -9,6 +9,7 @@ use std::alloc::{AllocError, Global};
 const FIRST_LINE: usize = 1;
 
 /// The lines of a sheet that are still to be told something, and the rows of those before them.
+// No iterator: one function tells the lines at the bench, another those in service, and both number them.
 #[derive(Drop)]
 pub(crate) struct Run<'a> {
     pub(crate) lines: &'a [&'a [u8]],

@@ -26,6 +26,7 @@ fn serve_line<C: Code>(
             let answer = perform(card, heap, request)?;
             Ok(answer.map_err(Refusal::Card))
         }
+        // told to the line, where `?` would end the run
         Err(refusal) => Ok(Err(Refusal::Sheet(refusal))),
     }
 }

@@ -65,6 +65,7 @@ fn unmask<C: Code>(code: &C, word: &[u8], message: &mut [u8])
 {
     let alphabet = code.alphabet();
     let down = alphabet.negative(first_symbol(code, word));
+    // a code names its information cells one by one, by index
     for (index, symbol) in message.iter_mut().enumerate() {
         if let Some(cell) = code.information_cell(index + 1) {
             *symbol = alphabet.sum(word[cell], down);

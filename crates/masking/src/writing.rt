@@ -187,6 +187,7 @@ fn place_message<C: Code>(code: &C, message: &[u8], word: &mut [u8])
     ensures information { symbols_at word.new (C.Code.meaning code.now).information ≡ 0 ∷ message.now }
 {
     word.fill(0);
+    // a code names its information cells one by one, by index
     for (index, symbol) in message.iter().enumerate() {
         if let Some(cell) = code.information_cell(index + 1) {
             word[cell] = *symbol;

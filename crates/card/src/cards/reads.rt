@@ -21,6 +21,7 @@ impl<C: Code> Service<C> {
         if room != message_length(&self.code) {
             return Err(masking::Refusal::MessageLength { length: room }.into());
         }
+        // which finds the page again, since comparing calls it too
         self.fetch(page, message)
     }
 

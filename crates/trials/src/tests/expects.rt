@@ -60,6 +60,7 @@ pub(crate) fn check_write<C: Code, const N: usize>(
     Ok(())
 }
 
+// The tests of `repetition` have their own, since tests of two crates share no code.
 /// Reads a page, and expects the corrected count and the message.
 pub(crate) fn check_read<C: Code, const N: usize>(
     rt: &impl Abort,

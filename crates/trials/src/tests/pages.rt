@@ -1,4 +1,5 @@
-// Pages that are written and read back, one for each code of the catalog, with a cell changed in between.
+// Pages that are written and read back, one for each code of the catalog, with a cell changed in between. Each test wants one code,
+// so it takes the choice apart.
 use super::expects::{check_read, check_write, choose};
 use catalog::AnyCode;
 use std::test::Fail;
