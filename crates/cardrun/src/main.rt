@@ -6,6 +6,7 @@ use sheet::LONGEST_SHEET;
 use std::io::{Read, Write};
 
 /// The longest sheet and one byte more, which tells that a sheet is too long.
+// `as`, since a constant calls no function
 const MOST_READ: u64 = LONGEST_SHEET as u64 + 1;
 
 fn main(rt: HostRuntime) -> anyhow::Result<()> {

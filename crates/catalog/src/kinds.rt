@@ -54,6 +54,7 @@ impl CodeKind {
     pub const PLANE: usize = 1;
 }
 
+// As for alphabets: a generic impl would ask a trait for all that differs, the numbers, the kinds and the refusal.
 impl TryFrom<usize> for CodeKind {
     type Error = Refusal;
 

@@ -20,7 +20,6 @@ fn read_symbols(columns: &[u8], symbols: &mut Symbols)
     ensures { SymbolsShown columns.now symbols.new.items }
 {
     let mut rest = columns;
-    // Each step takes a field of four columns off the rest, so nothing is counted.
     while let Some((value, more)) = take_field(rest) {
         symbols.push(u8::try_from(value).unwrap_or(u8::MAX));
         rest = more;

@@ -25,6 +25,7 @@ fn justify(columns: &mut [u8], number: usize)
     ensures { columns.new ≡ pad_to (length columns.old) (digits number) }
 {
     if let Some((last, others)) = columns.split_last_mut() {
+        // a digit fits, where `try_from` would bring an error that cannot come
         *last = b'0' + (number % 10) as u8;
         if number >= 10 {
             justify(others, number / 10);
@@ -44,6 +45,7 @@ fn put_number<const N: usize>(out: &mut Vec<u8>, number: usize) -> Result<(), Al
 }
 
 /// Puts a field for each number.
+// That the numbers fit is asked for, and held by no type: the definition of listings says which answers do.
 fn put_fields(out: &mut Vec<u8>, fields: &[usize]) -> Result<(), AllocError>
     requires { AllFit fields.now }
     ensures { OnOk result (out.new.items ≡ out.old.items ++ shown-columns fields.now) }

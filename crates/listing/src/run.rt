@@ -9,7 +9,7 @@ use std::alloc::{AllocError, Global};
 const FIRST_LINE: usize = 1;
 
 /// The lines of a sheet that are still to be told something, and the rows of those before them.
-// No iterator: one function tells the lines at the bench, another those in service, and both number them.
+// A slice and no iterator: `few` bounds how many lines are left, which is a slice's length.
 #[derive(Drop)]
 pub(crate) struct Run<'a> {
     pub(crate) lines: &'a [&'a [u8]],

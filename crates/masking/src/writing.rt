@@ -31,6 +31,7 @@ pub fn write<C: Code>(
 }
 
 /// What `write` does, with the one clause from which the others follow.
+// Not one with `write`: its five clauses would each be proved at four returns.
 fn write_lowest<C: Code>(
     code: &C,
     floors: &[u8],

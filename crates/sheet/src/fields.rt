@@ -9,7 +9,7 @@ pub const FIELD: usize = 4;
 pub fn field(columns: &[u8; FIELD]) -> Option<u16>
     ensures { Field columns.now result }
 {
-    // an arm for each number of digits, as the rule has it
+    // a loop would carry whether a digit was seen yet; an arm for each number of digits is the rule itself
     match *columns {
         [b' ', b' ', b' ', b' '] => None,
         [b' ', b' ', b' ', z] => digit(z),

@@ -21,7 +21,7 @@ impl<C: Code> Service<C> {
         if room != message_length(&self.code) {
             return Err(masking::Refusal::MessageLength { length: room }.into());
         }
-        // which finds the page again, since comparing calls it too
+        // through the card's `fetch`, whose clause on its history would otherwise be proved here again
         self.fetch(page, message)
     }
 

@@ -1,4 +1,4 @@
-// A page out of a table of pages. The table is a `Vec`, since what a slice lends is not said of a `Result`.
+// A page out of a table of pages. `lend` takes the Vec, since what a slice lends is not said of a Result, and `find` the same.
 ghost use Rattle.std.specs.Borrow.{sem};
 ghost use Rattle.std.specs.Prelude.{MatchResult};
 ghost use Rattle.card.specs.Lending.{IsPage, IsNoPage, LendsPage};
