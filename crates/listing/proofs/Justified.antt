@@ -1,6 +1,9 @@
 -- A number at the right end of columns of spaces, its last digit first.
-use Rattle.std.proofs.Common.{◌≡◌, ℕ, zero, suc, ◌+◌, ◌-◌, ◌/◌, ◌%◌, ◌^◌, ◌<◌, ◌≤◌, List, [], ◌∷◌, ◌++◌, length, take, replicate, sym, ap, ◌∙◌, ⊎_elim, append_assoc, pow-suc, arith, take_all}
-use Rattle.std.proofs.lemmas.List.{length_push, take-append-le, take-replicate}
+use borrow.Rule.Slice.PartMut.{put_mid}
+use Rattle.std.proofs.Common.{◌≡◌, ℕ, zero, suc, ◌+◌, ◌-◌, ◌/◌, ◌%◌, ◌^◌, ◌<◌, ◌≤◌, List, [], ◌∷◌, ◌++◌, length, take, drop, replicate, sym, ap, ◌∙◌, ⊎_elim, append_assoc, pow-suc, arith, take_all}
+use Rattle.std.proofs.Math.Seq.{drop-drop}
+use Rattle.std.proofs.lemmas.List.{length_push, take-append-le, take-replicate, drop-replicate}
+use Rattle.std.proofs.lemmas.Slice.{drop-put_mid}
 use Rattle.std.proofs.lemmas.Bool.{cases_lt}
 use Rattle.sheet.specs.Fields.{digits, pad_to}
 use Rattle.sheet.proofs.Shown.{digits_one, digits_more}
@@ -42,3 +45,10 @@ digits_most (suc n) v l =
     let less : v / 10 < 10 ^ suc n = omega (arith, l, pow-suc 10 (suc n)) in
     omega (arith, ap length (digits_more v g), length_push (digits (v / 10)) (48 + v % 10), digits_most n (v / 10) less))
     (cases_lt v 10)
+
+-- spaces are left after the columns of a field
+pub spaces_after : (at next all : ℕ) (was put : List ℕ) → next ≡ at + 4 → at ≤ length was → length put ≡ at + 4 - at → drop at was ≡ replicate (all - at) 32 → drop next (put_mid at (at + 4 - at) was put) ≡ replicate (all - next) 32
+spaces_after at next all was put e inside long spaces =
+    let left : all - at - 4 ≡ all - next = omega arith in
+    drop-put_mid at _ was put next (omega arith) inside long ∙ ap (λ n. drop n was) e ∙ sym (drop-drop 4 at was)
+    ∙ ap (drop 4) spaces ∙ drop-replicate 4 (all - at) 32 ∙ ap (λ n. replicate n 32) left

@@ -1,5 +1,5 @@
 // The lines of a listing as bytes.
-ghost use Rattle.std.specs.Prelude.{◌≡◌, ◌^◌, ◌<◌, ◌≤◌, ◌++◌, length, replicate, OnOk};
+ghost use Rattle.std.specs.Prelude.{◌≡◌, ◌*◌, ◌^◌, ◌<◌, ◌≤◌, ◌++◌, length, replicate, OnOk};
 ghost use Rattle.sheet.specs.Fields.{digits, pad_to};
 ghost use Rattle.listing.specs.Rows.{columns as shown-columns, fields as shown_fields, row as shown-row, AllFit, Fits};
 ghost use Rattle.listing.specs.Told.{granted, told};
@@ -56,21 +56,33 @@ fn put_fields(out: &mut Vec<u8>, fields: &[usize]) -> Result<(), AllocError>
     Ok(())
 }
 
+/// Puts each symbol at the right end of four columns that hold spaces.
+fn justify_symbols(columns: &mut [u8], symbols: &[u8])
+    requires { columns.old ≡ replicate (4 * length symbols.now) 32 }
+    ensures { columns.new ≡ shown-columns symbols.now }
+{
+    // by index: of columns that are written through a `zip` a proof knows only how many they are
+    for (index, symbol) in symbols.iter().enumerate() {
+        let at = FIELD * index;
+        justify(&mut columns[at..at + FIELD], usize::from(*symbol));
+    }
+}
+
 /// Puts a field for each symbol.
-// Not one function with `put_fields`: at a type that converts to a number, or over an iterator, the clauses speak of relations in
-// place of the numbers, which is longer than this loop.
+// The vector grows in one step: a message has up to 255 symbols, and a field by itself at its end costs more than its digits.
 fn put_symbols(out: &mut Vec<u8>, symbols: &[u8]) -> Result<(), AllocError>
+    requires { length symbols.now ≤ 257 }
     ensures { OnOk result (out.new.items ≡ out.old.items ++ shown-columns symbols.now) }
 {
-    for symbol in symbols {
-        put_number::<FIELD>(out, usize::from(*symbol))?;
-    }
+    let start = out.len();
+    out.resize(start + FIELD * symbols.len(), b' ')?;
+    justify_symbols(&mut out[start..], symbols);
     Ok(())
 }
 
 /// Puts the fields of what is granted.
 fn put_reply(out: &mut Vec<u8>, reply: &Reply) -> Result<(), AllocError>
-    requires { AllFit (shown_fields (granted reply.now)) }
+    requires { Fits (granted reply.now) }
     ensures { OnOk result (out.new.items ≡ out.old.items ++ shown-columns (shown_fields (granted reply.now))) }
 {
     match reply {
@@ -88,7 +100,7 @@ fn put_reply(out: &mut Vec<u8>, reply: &Reply) -> Result<(), AllocError>
 
 /// Puts the fields of what a line is told.
 fn put_told(out: &mut Vec<u8>, answer: &Told) -> Result<(), AllocError>
-    requires { AllFit (shown_fields (told answer.now)) }
+    requires { Fits (told answer.now) }
     ensures { OnOk result (out.new.items ≡ out.old.items ++ shown-columns (shown_fields (told answer.now))) }
 {
     match answer {
