@@ -1,10 +1,30 @@
 // A sheet's lines: a line feed ends a line, and bytes after the last line feed are a last line.
 ghost use Rattle.std.specs.Prelude.{◌≡◌, IfOk};
 ghost use Rattle.std.specs.Iterator.{YieldsFirstRef, item_count};
+ghost use Rattle.memchr.specs.Find.{IsFirstByte, is_byte};
 ghost use Rattle.sheet.specs.Cutting.{FirstCut, NextCut, AllLines, lines_of, texts};
 
 use memchr::memchr;
 use std::alloc::{AllocError, Global};
+
+/// Where the first line feed stands.
+fn first_feed(sheet: &[u8]) -> Option<usize>
+    ensures { IsFirstByte (is_byte 10) sheet.now result }
+{
+    match sheet {
+        // Lines of fewer than eight bytes by themselves: `memchr` looks at a run of bytes before it answers, and the shortest lines
+        // took twice as long so.
+        [b'\n', _, _, _, _, _, _, _, ..] => Some(0),
+        [_, b'\n', _, _, _, _, _, _, ..] => Some(1),
+        [_, _, b'\n', _, _, _, _, _, ..] => Some(2),
+        [_, _, _, b'\n', _, _, _, _, ..] => Some(3),
+        [_, _, _, _, b'\n', _, _, _, ..] => Some(4),
+        [_, _, _, _, _, b'\n', _, _, ..] => Some(5),
+        [_, _, _, _, _, _, b'\n', _, ..] => Some(6),
+        [_, _, _, _, _, _, _, b'\n', ..] => Some(7),
+        _ => memchr(b'\n', sheet),
+    }
+}
 
 /// The first line, and the bytes after it.
 pub fn cut_line<'a>(sheet: &'a [u8]) -> Option<(&'a [u8], &'a [u8])>
@@ -13,7 +33,7 @@ pub fn cut_line<'a>(sheet: &'a [u8]) -> Option<(&'a [u8], &'a [u8])>
     if sheet.is_empty() {
         return None;
     }
-    match memchr(b'\n', sheet) {
+    match first_feed(sheet) {
         Some(feed) => Some((&sheet[..feed], &sheet[feed + 1..])),
         None => Some((sheet, &[])),
     }
